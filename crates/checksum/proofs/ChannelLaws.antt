@@ -1,0 +1,26 @@
+-- What an entry learns of a channel number from what it names.
+use Prim.Native.Nat.{ℕ}
+use mathlib.Core.Path.{_≡_, refl}
+use mathlib.Core.Bool.{Bool, true, false, cond}
+use native.Mathlib.Omega.{arith}
+use Rattle.checksum.specs.declared.Channel.{Channel}
+use Rattle.checksum.specs.declared.Named.{Named}
+use Rattle.checksum.specs.declared.Named.the-variants.{Is, NotAChannel}
+use Rattle.checksum.specs.Channel.{notAChannel, channelOf, namedBy}
+
+picked-is : (b : Bool) (d c : Channel) → cond b NotAChannel (Is d) ≡ Is c → (b ≡ false) × (d ≡ c)
+picked-is false d c e = (refl, cc)
+picked-is true d c e = absurd (let z : _≡_ {A = ℕ} 0 1 = cc in omega arith)
+
+picked-not : (b : Bool) (d : Channel) → cond b NotAChannel (Is d) ≡ NotAChannel → b ≡ true
+picked-not true d e = refl
+picked-not false d e = absurd (let z : _≡_ {A = ℕ} 0 1 = cc in omega arith)
+
+pub named-is : (number : ℕ) (channel : Channel) → namedBy number ≡ Is channel
+    → (notAChannel number ≡ false) × (channelOf number ≡ channel)
+unfolding namedBy
+named-is number channel e = picked-is (notAChannel number) (channelOf number) channel e
+
+pub named-not : (number : ℕ) → namedBy number ≡ NotAChannel → notAChannel number ≡ true
+unfolding namedBy
+named-not number e = picked-not (notAChannel number) (channelOf number) e

@@ -1,0 +1,78 @@
+-- `feed` meets its contract. The invariant: the register, with the bits still to come, gives the answer.
+use borrow.Author.Needs.{needs}
+use mathlib.Core.Path.{_≡_, refl, _∙_, ap}
+use Prim.Native.Nat.{_-_, _/_, _^_, _≤_, _<_}
+use mathlib.Core.List.{[], _∷_}
+use native.Mathlib.Nat.{sub-zero}
+use native.Mathlib.Omega.{arith}
+use Rattle.division.specs.Bits.{bits}
+use Rattle.division.specs.Division.{checksum}
+use Rattle.division.proofs.MachineLaws.{low-bit}
+use Rattle.division.proofs.TurnLaws.{fed, turn-bit, end-bits}
+use Rattle.checksum.proofs.feed.Statement.{statement}
+use Rattle.checksum.proofs.feed.Tie as tie
+use Rattle.checksum.proofs.feed.Reads as reads
+use Rattle.checksum.proofs.feed.Lts as lts
+use Rattle.checksum.proofs.step.Reads as step-reads
+
+abbrev Inv-loop : tie.InvT-loop
+Inv-loop width polynomial register n count r₀ fed₀ r fed =
+    (fed ≤ count) × (r < 2 ^ width)
+    × (checksum width polynomial r (bits (count - fed) n) ≡ checksum width polynomial register (bits count n))
+
+abbrev μ-loop : tie.MeasureT-loop
+μ-loop width polynomial register n count r₀ fed₀ r fed = count - fed
+
+loop-holds : tie.Need-loop-holds Inv-loop μ-loop
+loop-holds c = (omega arith, c .pre .3, rw sub-zero)
+
+sub-place : tie.Need-sub-place Inv-loop μ-loop
+sub-place c = search needs
+
+sub-place-2 : tie.Need-sub-place-2 Inv-loop μ-loop
+sub-place-2 c = search needs
+
+shr-step : tie.Need-shr-step Inv-loop μ-loop
+shr-step c = search needs
+
+step-requires : tie.Need-step-requires Inv-loop μ-loop
+step-requires c κs = search needs
+
+add-fed : tie.Need-add-fed Inv-loop μ-loop
+add-fed c = search needs
+
+loop-less : tie.Need-loop-less Inv-loop μ-loop
+loop-less c = search needs
+
+loop-again : tie.Need-loop-again Inv-loop μ-loop
+loop-again c =
+    let a = c .before .before .before .args in
+    let l = c .before .before .loop in
+    let e = c .step .ensures .value ∙ ap (λ b. checksum (a .width) (a .polynomial) (l .r) (b ∷ [])) (low-bit (a .n / 2 ^ (a .count - 1 - l .fed))) in (
+      omega arith,
+      c .step .ensures .small,
+      turn-bit (a .width) (a .polynomial) (l .r) (c .step .result) (a .n) (a .count) (l .fed) (omega arith) e ∙ l .inv .2,
+    )
+
+returns : tie.Need-returns Inv-loop μ-loop
+returns c =
+    let a = c .before .before .args in
+    let l = c .before .loop in
+    fed (a .width) (a .polynomial) (a .register) (l .r) (bits (a .count) (a .n))
+    (end-bits (a .width) (a .polynomial) (l .r) (a .n) (a .count) (l .fed) _ (omega arith) (l .inv .1) (l .inv .2))
+
+pub feed-spec : {M : Type 1} → statement M
+feed-spec =
+    tie.close
+    (tie.spec
+    Inv-loop
+    μ-loop
+    loop-holds
+    sub-place
+    sub-place-2
+    shr-step
+    step-requires
+    add-fed
+    loop-less
+    loop-again
+    returns)

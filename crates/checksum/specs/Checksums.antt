@@ -1,0 +1,31 @@
+-- The header checksum and the frame checksum (01, "Frame layout").
+use Prim.Native.Nat.{ℕ}
+use mathlib.Core.Bool.{Bool}
+use mathlib.Core.List.{List, _∷_, _++_}
+use Rattle.division.specs.Bits.{bits, bytesBits}
+use Rattle.division.specs.Division.{checksum}
+use Rattle.checksum.specs.declared.Channel.{Channel}
+use Rattle.checksum.specs.Channel.{startOf}
+
+-- x^11+x^9+x^8+x^7+x^2+1, without its top term.
+abbrev pub headerPolynomial : ℕ
+headerPolynomial = 0x385
+
+-- "start value 0x01A".
+abbrev pub headerStart : ℕ
+headerStart = 0x01A
+
+-- The 20 bits under the header checksum: "sync, startup, frame ID, payload length, in that order".
+abbrev pub headerBits : Bool → Bool → ℕ → ℕ → List Bool
+headerBits sync startup id words = sync ∷ startup ∷ (bits 11 id ++ bits 7 words)
+
+abbrev pub headerChecksum : Bool → Bool → ℕ → ℕ → ℕ
+headerChecksum sync startup id words = checksum 11 headerPolynomial headerStart (headerBits sync startup id words)
+
+-- x^24+x^22+x^20+x^19+x^18+x^16+x^14+x^13+x^11+x^10+x^8+x^7+x^6+x^3+x+1, without its top term.
+abbrev pub framePolynomial : ℕ
+framePolynomial = 0x5D6DCB
+
+-- The checksum of bytes on a channel: "over the whole header (its checksum included) and the payload".
+abbrev pub frameChecksum : Channel → List ℕ → ℕ
+frameChecksum channel bytes = checksum 24 framePolynomial (startOf channel) (bytesBits bytes)

@@ -1,0 +1,170 @@
+// The two checksums of a frame (document 01, "Frame layout") and the channel that the second depends on.
+//
+// Entry: `frame_checksum`, on a channel number and bytes. For the crates above: `Channel`, `Channel::named`,
+// `header_checksum` and `frame_checksum_on`. Both checksums come of one `step`, the loop body of document 002,
+// section 4.5.1, over any width.
+ghost use mathlib.Core.Path.{_≡_};
+ghost use mathlib.Core.List.{[], _∷_};
+ghost use Prim.Native.Nat.{_<_, _≤_, _^_};
+ghost use Rattle.division.specs.Bits.{bits, bytesBits};
+ghost use Rattle.division.specs.Division.{Fed};
+ghost use Rattle.checksum.specs.Channel.{startOf, namedBy};
+ghost use Rattle.checksum.specs.Checksums.{headerPolynomial, headerBits, headerChecksum, framePolynomial, frameChecksum};
+ghost use Rattle.checksum.specs.FrameChecksum.{told, FrameChecksumSays};
+
+pub enum Channel {
+    A,
+    B,
+}
+
+// What a number names.
+pub enum Named {
+    Is(Channel),
+    NotAChannel,
+}
+
+impl Channel {
+    // The frame checksum's start value on each channel. They differ, so that crossed channels are noticed.
+    pub const START_A: u32 = 0xFE_DCBA;
+
+    pub const START_B: u32 = 0xAB_CDEF;
+
+    pub fn start(self) -> u32
+        ensures { λ r. ⌜ (r ≡ startOf self) × (r < 2 ^ 24) ⌝ }
+    {
+        match self {
+            Channel::A => Channel::START_A,
+            Channel::B => Channel::START_B,
+        }
+    }
+
+    // The one place where a channel is a number.
+    pub fn named(number: u8) -> Named
+        ensures { λ r. ⌜ r ≡ namedBy number ⌝ }
+    {
+        if number == 0 {
+            return Named::Is(Channel::A);
+        }
+        if number == 1 {
+            return Named::Is(Channel::B);
+        }
+        Named::NotAChannel
+    }
+}
+
+// What `frame_checksum` answers.
+pub enum Checksum {
+    Value(u32),
+    NotAChannel,
+}
+
+impl Checksum {
+    // 01's number: 0, or that of the refusal.
+    pub fn number(self) -> u8
+        ensures { λ r. ⌜ r ≡ told self .number ⌝ }
+    {
+        match self {
+            Checksum::Value(_) => 0,
+            Checksum::NotAChannel => 1,
+        }
+    }
+
+    // The checksum, 0 with a refusal.
+    pub fn value(self) -> u32
+        ensures { λ r. ⌜ r ≡ told self .value ⌝ }
+    {
+        match self {
+            Checksum::Value(v) => v,
+            Checksum::NotAChannel => 0,
+        }
+    }
+}
+
+const HEADER_WIDTH: u32 = 11;
+
+const HEADER_POLYNOMIAL: u32 = 0x385;
+
+const HEADER_START: u32 = 0x01A;
+
+const FRAME_WIDTH: u32 = 24;
+
+const FRAME_POLYNOMIAL: u32 = 0x5D_6DCB;
+
+// The register after one more bit: shifted left, and with the polynomial taken in where the bit is not the top bit that left.
+fn step(width: u32, polynomial: u32, register: u32, next: bool) -> u32
+    requires { ⌜ (0 < width) × (width < 32) × (polynomial < 2 ^ width) ⌝ }
+    ensures { λ r. ⌜ Fed width polynomial register (next ∷ []) r ⌝ }
+{
+    let mask = (1u32 << width) - 1;
+    let shifted = (register << 1) & mask;
+    let top = (register >> (width - 1)) & 1 == 1;
+    if next == top {
+        shifted
+    } else {
+        shifted ^ polynomial
+    }
+}
+
+// The register after the `count` low bits of `n`, the most significant first.
+fn feed(width: u32, polynomial: u32, register: u32, n: u32, count: u32) -> u32
+    requires { ⌜ (0 < width) × (width < 32) × (polynomial < 2 ^ width) × (register < 2 ^ width) × (count ≤ 32) ⌝ }
+    ensures { λ r. ⌜ Fed width polynomial register (bits count n) r ⌝ }
+{
+    let mut r = register;
+    let mut fed = 0;
+    while fed < count {
+        let place = count - 1 - fed;
+        r = step(width, polynomial, r, (n >> place) & 1 == 1);
+        fed += 1;
+    }
+    r
+}
+
+// The register after a header's 20 bits: sync, startup, frame ID, payload length.
+fn feed_header(register: u32, sync: bool, startup: bool, id: u16, words: u8) -> u32
+    requires { ⌜ register < 2 ^ 11 ⌝ }
+    ensures { λ r. ⌜ Fed 11 headerPolynomial register (headerBits sync startup id words) r ⌝ }
+{
+    let r = step(HEADER_WIDTH, HEADER_POLYNOMIAL, register, sync);
+    let r = step(HEADER_WIDTH, HEADER_POLYNOMIAL, r, startup);
+    let r = feed(HEADER_WIDTH, HEADER_POLYNOMIAL, r, id as u32, 11);
+    feed(HEADER_WIDTH, HEADER_POLYNOMIAL, r, words as u32, 7)
+}
+
+// The header checksum. Of the ID 11 bits count, of the payload length 7.
+pub fn header_checksum(sync: bool, startup: bool, id: u16, words: u8) -> u16
+    ensures { λ r. ⌜ r ≡ headerChecksum sync startup id words ⌝ }
+{
+    feed_header(HEADER_START, sync, startup, id, words) as u16
+}
+
+// The register after bytes, each most significant bit first.
+fn feed_bytes(register: u32, bytes: &[u8]) -> u32
+    requires { ⌜ register < 2 ^ 24 ⌝ }
+    ensures { λ r. ⌜ Fed 24 framePolynomial register (bytesBits (now (bytes .entry))) r ⌝ }
+{
+    let mut r = register;
+    let mut i = 0;
+    while i < bytes.len() {
+        r = feed(FRAME_WIDTH, FRAME_POLYNOMIAL, r, bytes[i] as u32, 8);
+        i += 1;
+    }
+    r
+}
+
+// The frame checksum of bytes on a channel.
+pub fn frame_checksum_on(channel: Channel, bytes: &[u8]) -> u32
+    ensures { λ r. ⌜ r ≡ frameChecksum channel (now (bytes .entry)) ⌝ }
+{
+    feed_bytes(channel.start(), bytes)
+}
+
+// The frame checksum of any bytes on a channel given by its number, or refusal 1.
+pub fn frame_checksum(channel: u8, bytes: &[u8]) -> Checksum
+    ensures { λ r. ⌜ FrameChecksumSays channel (now (bytes .entry)) r ⌝ }
+{
+    let Named::Is(named) = Channel::named(channel) else {
+        return Checksum::NotAChannel;
+    };
+    Checksum::Value(frame_checksum_on(named, bytes))
+}

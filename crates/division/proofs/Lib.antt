@@ -1,0 +1,13 @@
+pub mod ExorLaws
+pub mod BitsLaws
+pub mod RegisterLaws
+pub mod Linearity
+pub mod Injectivity
+pub mod Parity
+pub mod WordLaws
+pub mod DifferingLaws
+pub mod Burst
+pub mod DistanceLaws
+pub mod FactsLaws
+pub mod TurnLaws
+pub mod MachineLaws

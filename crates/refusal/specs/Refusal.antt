@@ -1,0 +1,39 @@
+-- Which refusal an entry gives: the first, in document 01's order, whose condition holds.
+use Prim.Native.Nat.{ℕ, zero, suc}
+use mathlib.Core.Bool.{Bool, true, false}
+use mathlib.Core.List.{List, [], _∷_}
+
+infix 70 _when_
+-- A line of an entry's list: a number of 01's table, and whether its condition holds ("given exactly when").
+pub data Line : Type 0 where
+  _when_ : ℕ → Bool → Line
+
+-- The number of the first line whose condition holds. 0, which is no refusal, where none does.
+unfoldable pub first : List Line → ℕ
+first [] = 0
+first (n when true ∷ l) = n
+first (n when false ∷ l) = first l
+
+-- No line's condition holds.
+unfoldable pub noneHolds : List Line → Bool
+noneHolds [] = true
+noneHolds (n when true ∷ l) = false
+noneHolds (n when false ∷ l) = noneHolds l
+
+-- The numbers of a list, in their order.
+unfoldable pub numbers : List Line → List ℕ
+numbers [] = []
+numbers (n when c ∷ l) = n ∷ numbers l
+
+-- No line has the number 0, which would say that nothing is refused.
+unfoldable pub numbered : List Line → Bool
+numbered [] = true
+numbered (zero when c ∷ l) = false
+numbered (suc n when c ∷ l) = numbered l
+
+-- What comes back beside a number: one thing where nothing is refused, another where something is
+-- ("A refusal returns its number only").
+module _ {ℓ} {A : Type ℓ} where
+  abbrev pub ifAccepted : ℕ → A → A → A
+  ifAccepted zero this other = this
+  ifAccepted (suc n) this other = other
