@@ -4,7 +4,6 @@ use mathlib.Core.Path.{_≡_, refl}
 use mathlib.Core.Bool.{Bool, true, false, cond}
 use native.Mathlib.Omega.{arith}
 use Rattle.checksum.specs.declared.Channel.{Channel}
-use Rattle.checksum.specs.declared.Named.{Named}
 use Rattle.checksum.specs.declared.Named.the-variants.{Is, NotAChannel}
 use Rattle.checksum.specs.Channel.{notAChannel, channelOf, namedBy}
 

@@ -1,15 +1,16 @@
 -- The header checksum and the frame checksum (01, "Frame layout").
 use Prim.Native.Nat.{ℕ}
 use mathlib.Core.Bool.{Bool}
-use mathlib.Core.List.{List, _∷_, _++_}
+use mathlib.Core.List.{List, [], _∷_, _++_}
 use Rattle.division.specs.Bits.{bits, bytesBits}
 use Rattle.division.specs.Division.{checksum}
+use Rattle.division.specs.Polynomial.{terms}
 use Rattle.checksum.specs.declared.Channel.{Channel}
 use Rattle.checksum.specs.Channel.{startOf}
 
--- x^11+x^9+x^8+x^7+x^2+1, without its top term.
+-- "x^11+x^9+x^8+x^7+x^2+1", without its top term: 0x385.
 abbrev pub headerPolynomial : ℕ
-headerPolynomial = 0x385
+headerPolynomial = terms (9 ∷ 8 ∷ 7 ∷ 2 ∷ 0 ∷ [])
 
 -- "start value 0x01A".
 abbrev pub headerStart : ℕ
@@ -22,9 +23,9 @@ headerBits sync startup id words = sync ∷ startup ∷ (bits 11 id ++ bits 7 wo
 abbrev pub headerChecksum : Bool → Bool → ℕ → ℕ → ℕ
 headerChecksum sync startup id words = checksum 11 headerPolynomial headerStart (headerBits sync startup id words)
 
--- x^24+x^22+x^20+x^19+x^18+x^16+x^14+x^13+x^11+x^10+x^8+x^7+x^6+x^3+x+1, without its top term.
+-- "x^24+x^22+x^20+x^19+x^18+x^16+x^14+x^13+x^11+x^10+x^8+x^7+x^6+x^3+x+1", without its top term: 0x5D6DCB.
 abbrev pub framePolynomial : ℕ
-framePolynomial = 0x5D6DCB
+framePolynomial = terms (22 ∷ 20 ∷ 19 ∷ 18 ∷ 16 ∷ 14 ∷ 13 ∷ 11 ∷ 10 ∷ 8 ∷ 7 ∷ 6 ∷ 3 ∷ 1 ∷ 0 ∷ [])
 
 -- The checksum of bytes on a channel: "over the whole header (its checksum included) and the payload".
 abbrev pub frameChecksum : Channel → List ℕ → ℕ

@@ -2,7 +2,7 @@
 use Prim.Native.Nat.{ℕ}
 use mathlib.Core.Path.{_≡_}
 use mathlib.Core.List.{List, [], _∷_}
-use Rattle.refusal.specs.Refusal.{_when_, first, ifAccepted}
+use Rattle.refusal.specs.Refusal.{Line, _when_, first, ifAccepted}
 use Rattle.checksum.specs.declared.Checksum.{Checksum}
 use Rattle.checksum.specs.declared.Checksum.the-variants.{Value, NotAChannel}
 use Rattle.checksum.specs.Channel.{notAChannel, channelOf}
@@ -18,8 +18,11 @@ told (Value v) = record { number = 0; value = v }
 told NotAChannel = record { number = 1; value = 0 }
 
 -- The refusals of the entry, in their order.
+abbrev pub refusals : ℕ → List Line
+refusals channel = 1 when notAChannel channel ∷ []
+
 abbrev pub refusal : ℕ → ℕ
-refusal channel = first (1 when notAChannel channel ∷ [])
+refusal channel = first (refusals channel)
 
 -- What is right for this channel number and these bytes.
 abbrev pub rule : ℕ → List ℕ → Told

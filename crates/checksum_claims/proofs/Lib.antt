@@ -1,2 +1,2 @@
-pub mod Cited
-pub mod FrameChecksumClaims
+pub mod Checksums
+pub mod FrameChecksum

@@ -1,5 +1,5 @@
-// What follows from the checksums' rules: `proofs/` has the claims, and this file their witnesses, short functions over the
-// entry that are proved from its contract alone.
+// What follows from the checksums' rules. `specs/` states the claims, `proofs/` proves them, and this file has their witnesses:
+// short functions over the entry, proved from its contract alone.
 ghost use mathlib.Core.Path.{_≡_};
 ghost use mathlib.Core.Bool.{false};
 ghost use Rattle.checksum.specs.Channel.{notAChannel};

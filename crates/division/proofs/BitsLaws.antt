@@ -1,5 +1,5 @@
 -- Laws of `bits` and `number`: each undoes the other, and exclusive or of strings is exclusive or of numbers.
-use Prim.Native.Nat.{ℕ, zero, suc, _+_, _*_, _/_, _%_, _^_, _≤_, _<_}
+use Prim.Native.Nat.{ℕ, zero, suc, _+_, _*_, _/_, _%_, _^_, _<_}
 use mathlib.Core.Path.{_≡_, refl, sym, ap, ap₂, _∙_}
 use mathlib.Core.Bool.{Bool, true, false}
 use mathlib.Core.List.{List, [], _∷_, _++_}
@@ -11,7 +11,7 @@ use lib.Pow.{mod-pow-add}
 use lib.Bits.{bitXor, xor-block, xor-mod}
 use lib.ListN.{length, length-append}
 use Rattle.division.specs.Bits.{odd, bit, bits, number}
-use Rattle.division.specs.Division.{_⊕_, exor, onlyIf}
+use Rattle.division.specs.Division.{_⊕_, exor}
 use Rattle.division.proofs.ExorLaws.{length-exor, zeros}
 
 pub length-bits : (w n : ℕ) → length (bits w n) ≡ w
@@ -69,9 +69,6 @@ pub bits-number : (w : ℕ) (l : List Bool) → length l ≡ w → bits w (numbe
 bits-number w l e =
     number-inj (bits w (number l)) l (length-bits w (number l) ∙ sym e)
     (number-bits w (number l) ∙ mod-eq-of-lt (rw (← e) (number-lt l)))
-
-pub bits-mod : (w n : ℕ) → bits w (n % 2 ^ w) ≡ bits w n
-bits-mod w n = rw (← number-bits w n) (bits-number w (bits w n) (length-bits w n))
 
 pub bits-inj : (w m n : ℕ) → bits w m ≡ bits w n → m % 2 ^ w ≡ n % 2 ^ w
 bits-inj w m n e = sym (number-bits w m) ∙ ap number e ∙ number-bits w n

@@ -8,7 +8,7 @@ use lib.Dec.{eqb}
 use lib.ListN.{length}
 use borrow.Author.Tests.{eq-eqb}
 use Rattle.division.specs.Bits.{bits}
-use Rattle.division.specs.Division.{exor, onlyIf, step, feed}
+use Rattle.division.specs.Division.{exor, step, feed}
 use Rattle.division.specs.Polynomial.{last, EndsInOne}
 use Rattle.division.specs.Word.{EndsInChecksum}
 use Rattle.division.specs.Differing.{ones, differing}

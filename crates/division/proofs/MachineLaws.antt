@@ -10,8 +10,8 @@ use lib.Arith.{mod-mul}
 use lib.Bits.{bitAnd, bitXor, xor-zero-r, and-mask}
 use lib.Pow.{pow-pos, shl-exact, mod-mod-pow}
 use Rattle.division.specs.Bits.{odd, bits, number}
-use Rattle.division.specs.Division.{_⊕_, exor, onlyIf, step, feed, checksum}
-use Rattle.division.proofs.ExorLaws.{xor-same, xor-not, length-onlyIf, onlyIf-true, onlyIf-false, zeros}
+use Rattle.division.specs.Division.{_⊕_, onlyIf, step, feed, checksum}
+use Rattle.division.proofs.ExorLaws.{xor-same, xor-not, length-onlyIf, onlyIf-true, onlyIf-false}
 use Rattle.division.proofs.BitsLaws.{length-bits, number-bits, number-exor, number-shifted, number-zeros}
 use Rattle.division.proofs.RegisterLaws.{length-shifted}
 

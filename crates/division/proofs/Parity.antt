@@ -1,6 +1,6 @@
 -- Parity: where the polynomial with its top term has an even number of ones, every word that ends in its own checksum has the
 -- parity of the start value, so two of them differ in an even number of bits.
-use Prim.Native.Nat.{ℕ, suc, _+_, _%_}
+use Prim.Native.Nat.{ℕ, _+_, _%_}
 use mathlib.Core.Path.{_≡_, refl, sym, ap, ap₂, _∙_}
 use mathlib.Core.Bool.{Bool, true, false, not, _&&_, false≢true, and-true}
 use mathlib.Core.List.{List, [], _∷_, _++_}

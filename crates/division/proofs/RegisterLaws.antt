@@ -6,9 +6,9 @@ use mathlib.Core.List.{List, [], _∷_, _++_}
 use native.Mathlib.Numerals.{add-one}
 use lib.ListN.{length, length-append}
 use Rattle.division.specs.Bits.{bits, number}
-use Rattle.division.specs.Division.{_⊕_, exor, onlyIf, step, feed, checksum}
+use Rattle.division.specs.Division.{_⊕_, onlyIf, step, feed, checksum}
 use Rattle.division.proofs.ExorLaws.{length-exor, length-onlyIf}
-use Rattle.division.proofs.BitsLaws.{length-bits, one-width, number-bits, number-lt, bits-number, bits-mod}
+use Rattle.division.proofs.BitsLaws.{length-bits, one-width, number-bits, number-lt, bits-number}
 
 pub length-shifted : (x : List Bool) → length (x ++ (false ∷ [])) ≡ suc (length x)
 length-shifted x = length-append x (false ∷ []) ∙ add-one (length x)

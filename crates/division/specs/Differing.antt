@@ -1,8 +1,10 @@
 -- How two bit strings of one length differ: in how many bits, and the first and the last place, counted from 0 in sending order.
-use Prim.Native.Nat.{ℕ, suc, _+_}
+use Prim.Native.Nat.{ℕ, suc, _+_, _≤_, _<_}
+use mathlib.Core.Path.{_≡_}
 use mathlib.Core.Bool.{Bool, true, false, cond}
 use mathlib.Core.List.{List, [], _∷_}
 use lib.Dec.{eqb}
+use lib.ListN.{getD}
 use Rattle.division.specs.Bits.{bit}
 use Rattle.division.specs.Division.{exor}
 
@@ -31,3 +33,8 @@ firstDiffering x y = firstOne (exor x y)
 
 unfoldable pub lastDiffering : List Bool → List Bool → ℕ
 lastDiffering x y = lastOne (exor x y)
+
+-- Two strings differ nowhere but within `count` consecutive places, of which `place` is the first.
+abbrev pub DifferWithin : List Bool → List Bool → ℕ → ℕ → Type 0
+DifferWithin x y place count =
+    (j : ℕ) → (getD x j false ≡ getD y j false → ⊥) → (place ≤ j) × (j < place + count)

@@ -8,7 +8,7 @@ use lib.Bits.{bitXor}
 use lib.ListN.{length}
 use Rattle.division.specs.Division.{exor, checksum}
 use Rattle.division.specs.Word.{EndsInChecksum}
-use Rattle.division.specs.Differing.{differing, firstDiffering, lastDiffering}
+use Rattle.division.specs.Differing.{differing, firstDiffering, lastDiffering, DifferWithin}
 use Rattle.division.specs.Distance.{neverApart}
 
 pub record Facts (width polynomial : ℕ) : Type 0 where
@@ -28,6 +28,10 @@ pub record Facts (width polynomial : ℕ) : Type 0 where
   pub burst : (start : ℕ) (x y : List Bool) → length x ≡ length y → (x ≡ y → ⊥)
       → EndsInChecksum width polynomial start x → EndsInChecksum width polynomial start y
       → firstDiffering x y + width ≤ lastDiffering x y
+  -- So no `width` consecutive places hold all their differences.
+  pub window : (start : ℕ) (x y : List Bool) → length x ≡ length y → (x ≡ y → ⊥)
+      → EndsInChecksum width polynomial start x → EndsInChecksum width polynomial start y
+      → (place : ℕ) → DifferWithin x y place width → ⊥
   -- Distance: where the test says so, such words of at most n bits never differ in exactly c bits.
   pub distance : (n c : ℕ) → neverApart width polynomial n c ≡ true
       → (start : ℕ) (x y : List Bool) → length x ≡ length y → length x ≤ n → (x ≡ y → ⊥)

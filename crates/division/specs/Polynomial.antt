@@ -1,10 +1,16 @@
--- What the laws of division ask of a polynomial, which is given by its width and by its number without the top term.
-use Prim.Native.Nat.{ℕ, _%_}
+-- Polynomials: written by their exponents, and what the laws of division ask of one, which is given by its width and by its number
+-- without the top term.
+use Prim.Native.Nat.{ℕ, _+_, _%_, _^_}
 use mathlib.Core.Path.{_≡_}
 use mathlib.Core.Bool.{Bool, true, false}
 use mathlib.Core.List.{List, [], _∷_}
 use Rattle.division.specs.Bits.{bits}
 use Rattle.division.specs.Differing.{ones}
+
+-- The number whose ones stand at these exponents: x^2+1 is terms (2 ∷ 0 ∷ []), which is 5.
+abbrev pub terms : List ℕ → ℕ
+terms [] = 0
+terms (k ∷ l) = 2 ^ k + terms l
 
 -- The last bit of a string.
 unfoldable pub last : List Bool → Bool

@@ -1,6 +1,6 @@
 -- `feed` meets its contract. The invariant: the register, with the bits still to come, gives the answer.
 use borrow.Author.Needs.{needs}
-use mathlib.Core.Path.{_≡_, refl, _∙_, ap}
+use mathlib.Core.Path.{_≡_, _∙_, ap}
 use Prim.Native.Nat.{_-_, _/_, _^_, _≤_, _<_}
 use mathlib.Core.List.{[], _∷_}
 use native.Mathlib.Nat.{sub-zero}

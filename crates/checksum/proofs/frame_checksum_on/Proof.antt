@@ -1,6 +1,6 @@
 -- `frame_checksum_on` meets its contract.
 use borrow.Author.Needs.{needs}
-use mathlib.Core.Path.{_≡_, _∙_, ap}
+use mathlib.Core.Path.{_∙_, ap}
 use denote.Ref.{now}
 use Rattle.division.specs.Bits.{bytesBits}
 use Rattle.division.specs.Division.{checksum}

@@ -1,7 +1,7 @@
 -- `step` meets its contract: the laws of one bit in the words of a 32-bit machine.
 use borrow.Author.Needs.{needs}
 use Prim.Native.Nat.{_-_, _/_, _^_}
-use mathlib.Core.Path.{_≡_, sym, _∙_, ap}
+use mathlib.Core.Path.{sym, _∙_, ap}
 use mathlib.Core.List.{[], _∷_}
 use lib.Bits.{bitXor}
 use lib.Pow.{pow-pos}

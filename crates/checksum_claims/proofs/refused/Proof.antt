@@ -4,7 +4,7 @@ use mathlib.Core.Path.{_∙_, ap}
 use mathlib.Core.Bool.{not}
 use denote.Ref.{now}
 use lib.Dec.{eqb}
-use Rattle.checksum_claims.proofs.FrameChecksumClaims.{refused-exactly}
+use Rattle.checksum_claims.proofs.FrameChecksum.{refused-exactly}
 use Rattle.checksum_claims.proofs.refused.Statement.{statement}
 use Rattle.checksum_claims.proofs.refused.Tie as tie
 use Rattle.checksum_claims.proofs.refused.Reads as reads

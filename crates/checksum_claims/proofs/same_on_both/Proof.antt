@@ -6,8 +6,8 @@ use denote.Ref.{now}
 use Rattle.checksum.specs.declared.Channel.the-variants.{A, B}
 use Rattle.checksum.specs.Checksums.{frameChecksum}
 use Rattle.checksum.specs.FrameChecksum.{told}
-use Rattle.checksum_claims.proofs.Cited.{channels-apart}
-use Rattle.checksum_claims.proofs.FrameChecksumClaims.{on-a, on-b}
+use Rattle.checksum_claims.proofs.Checksums.{channels-apart}
+use Rattle.checksum_claims.proofs.FrameChecksum.{on-a, on-b}
 use Rattle.checksum_claims.proofs.same_on_both.Statement.{statement}
 use Rattle.checksum_claims.proofs.same_on_both.Tie as tie
 use Rattle.checksum_claims.proofs.same_on_both.Reads as reads

@@ -1,5 +1,5 @@
 -- `Channel::named` meets its contract.
-use mathlib.Core.Path.{_≡_, sym, ap}
+use mathlib.Core.Path.{sym, ap}
 use borrow.Author.Tests.{ne-eqb}
 use Rattle.checksum.specs.Channel.{namedBy, notAChannel, channelOf}
 use Rattle.checksum.proofs.Channel.named.Statement.{statement}

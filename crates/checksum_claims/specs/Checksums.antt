@@ -1,0 +1,38 @@
+-- Claims about both checksums: what division gives a header of 11 checksum bits and a frame of 24. The customer's third condition
+-- rests on them: two different byte strings that are accepted on one channel differ in an even number of bits, never all within 24
+-- consecutive ones, and no byte string is accepted on both channels.
+use Prim.Native.Nat.{ℕ, _*_, _≤_}
+use mathlib.Core.Path.{_≡_}
+use mathlib.Core.Bool.{Bool}
+use mathlib.Core.List.{List, [], _∷_}
+use lib.ListN.{length}
+use Rattle.division.specs.Bits.{bytesBits}
+use Rattle.division.specs.Division.{checksum}
+use Rattle.division.specs.Word.{EndsInChecksum}
+use Rattle.division.specs.Differing.{differing}
+use Rattle.division.specs.Facts.{Facts}
+use Rattle.checksum.specs.declared.Channel.the-variants.{A, B}
+use Rattle.checksum.specs.Checksums.{headerPolynomial, headerStart, framePolynomial, frameChecksum}
+
+-- Every fact of division holds for the header checksum, and for the frame checksum.
+abbrev pub HeaderFacts : Type 0
+HeaderFacts = Facts 11 headerPolynomial
+
+abbrev pub FrameFacts : Type 0
+FrameFacts = Facts 24 framePolynomial
+
+-- No bytes have one frame checksum on both channels.
+abbrev pub ChannelsApart : Type 0
+ChannelsApart = (bytes : List ℕ) → frameChecksum A bytes ≡ frameChecksum B bytes → ⊥
+
+-- Two different words of at most 262 bytes that end in their own frame checksum differ in at least four bits.
+abbrev pub FramesFour : Type 0
+FramesFour =
+    (start : ℕ) (x y : List Bool) → length x ≡ length y → length x ≤ 8 * 262 → (x ≡ y → ⊥)
+    → EndsInChecksum 24 framePolynomial start x → EndsInChecksum 24 framePolynomial start y
+    → 4 ≤ differing x y
+
+-- The public catalogue's check value for the header checksum's polynomial and start value, of the nine ASCII digits 1 to 9.
+abbrev pub HeaderCheckValue : Type 0
+HeaderCheckValue =
+    checksum 11 headerPolynomial headerStart (bytesBits (49 ∷ 50 ∷ 51 ∷ 52 ∷ 53 ∷ 54 ∷ 55 ∷ 56 ∷ 57 ∷ [])) ≡ 0x5A3
