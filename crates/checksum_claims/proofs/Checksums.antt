@@ -3,17 +3,19 @@ use Prim.Native.Nat.{ℕ, _%_, _≤_}
 use mathlib.Core.Path.{_≡_, refl}
 use mathlib.Core.Bool.{true}
 use native.Mathlib.Omega.{arith}
+use lib.ListN.{length-append}
 use Rattle.division.specs.Bits.{bits, number, bytesBits}
 use Rattle.division.specs.Division.{exor, onlyIf, step, feed, checksum}
 use Rattle.division.specs.Polynomial.{last}
 use Rattle.division.specs.Differing.{ones, differing}
 use Rattle.division.specs.Distance.{neverZero, neverApart}
+use Rattle.division.proofs.BitsLaws.{length-bits}
 use Rattle.division.proofs.FactsLaws.{facts}
 use Rattle.division.proofs.DifferingLaws.{differing-zero}
 use Rattle.checksum.specs.declared.Channel.the-variants.{A, B}
 use Rattle.checksum.specs.Channel.{startOf}
 use Rattle.checksum.specs.Checksums.{headerPolynomial, framePolynomial}
-use Rattle.checksum_claims.specs.Checksums.{HeaderFacts, FrameFacts, ChannelsApart, FramesFour, HeaderCheckValue}
+use Rattle.checksum_claims.specs.Checksums.{HeaderFacts, FrameFacts, HeaderTwenty, ChannelsApart, FramesFour, HeaderCheckValue}
 
 pub header-facts : HeaderFacts
 unfolding bits last ones
@@ -22,6 +24,9 @@ header-facts = facts 11 headerPolynomial refl refl
 pub frame-facts : FrameFacts
 unfolding bits last ones
 frame-facts = facts 24 framePolynomial refl refl
+
+pub header-twenty : HeaderTwenty
+header-twenty sync startup id words = rw (length-append, length-bits, length-bits)
 
 pub channels-apart : ChannelsApart
 channels-apart bytes e = omega (arith, frame-facts .injective (startOf A) (startOf B) (bytesBits bytes) e)

@@ -12,7 +12,7 @@ use Rattle.division.specs.Word.{EndsInChecksum}
 use Rattle.division.specs.Differing.{differing}
 use Rattle.division.specs.Facts.{Facts}
 use Rattle.checksum.specs.declared.Channel.the-variants.{A, B}
-use Rattle.checksum.specs.Checksums.{headerPolynomial, headerStart, framePolynomial, frameChecksum}
+use Rattle.checksum.specs.Checksums.{headerPolynomial, headerStart, headerBits, framePolynomial, frameChecksum}
 
 -- Every fact of division holds for the header checksum, and for the frame checksum.
 abbrev pub HeaderFacts : Type 0
@@ -20,6 +20,10 @@ HeaderFacts = Facts 11 headerPolynomial
 
 abbrev pub FrameFacts : Type 0
 FrameFacts = Facts 24 framePolynomial
+
+-- The header checksum goes over 20 bits.
+abbrev pub HeaderTwenty : Type 0
+HeaderTwenty = (sync startup : Bool) (id words : ℕ) → length (headerBits sync startup id words) ≡ 20
 
 -- No bytes have one frame checksum on both channels.
 abbrev pub ChannelsApart : Type 0
