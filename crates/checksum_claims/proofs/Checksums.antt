@@ -7,7 +7,8 @@ use lib.ListN.{length-append}
 use Rattle.division.specs.Bits.{bits, number, bytesBits}
 use Rattle.division.specs.Division.{exor, onlyIf, step, feed, checksum}
 use Rattle.division.specs.Polynomial.{last}
-use Rattle.division.specs.Differing.{ones, differing}
+use Rattle.division.specs.Word.{word}
+use Rattle.division.specs.Differing.{ones, firstOne, lastOne, differing, firstDiffering, lastDiffering}
 use Rattle.division.specs.Distance.{neverZero, neverApart}
 use Rattle.division.proofs.BitsLaws.{length-bits}
 use Rattle.division.proofs.FactsLaws.{facts}
@@ -15,7 +16,7 @@ use Rattle.division.proofs.DifferingLaws.{differing-zero}
 use Rattle.checksum.specs.declared.Channel.the-variants.{A, B}
 use Rattle.checksum.specs.Channel.{startOf}
 use Rattle.checksum.specs.Checksums.{headerPolynomial, framePolynomial}
-use Rattle.checksum_claims.specs.Checksums.{HeaderFacts, FrameFacts, HeaderTwenty, ChannelsApart, FramesFour, HeaderCheckValue}
+use Rattle.checksum_claims.specs.Checksums.{HeaderFacts, FrameFacts, HeaderTwenty, ChannelsApart, FramesFour, BurstExact, FourExact, HeaderCheckValue}
 
 pub header-facts : HeaderFacts
 unfolding bits last ones
@@ -43,6 +44,14 @@ pub frames-four : FramesFour
 frames-four start x y l b differ ex ey =
     even-and-not-two (differing x y) (frame-facts .even start x y l ex ey) (λ e. differ (differing-zero x y l e))
     (frame-facts .distance 2096 2 frame-test start x y l (omega arith) differ ex ey)
+
+pub burst-exact : BurstExact
+unfolding firstDiffering lastDiffering firstOne lastOne ones word checksum feed step exor onlyIf bits number
+burst-exact = (refl, refl)
+
+pub four-exact : FourExact
+unfolding differing ones word checksum feed step exor onlyIf bits number
+four-exact = refl
 
 pub header-check-value : HeaderCheckValue
 unfolding checksum feed step exor onlyIf bits number bytesBits

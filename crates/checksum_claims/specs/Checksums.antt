@@ -3,15 +3,16 @@
 -- consecutive ones, and no byte string is accepted on both channels.
 use Prim.Native.Nat.{ℕ, _*_, _≤_}
 use mathlib.Core.Path.{_≡_}
-use mathlib.Core.Bool.{Bool}
+use mathlib.Core.Bool.{Bool, true, false}
 use mathlib.Core.List.{List, [], _∷_}
-use lib.ListN.{length}
+use lib.ListN.{length, replicate}
 use Rattle.division.specs.Bits.{bytesBits}
 use Rattle.division.specs.Division.{checksum}
-use Rattle.division.specs.Word.{EndsInChecksum}
-use Rattle.division.specs.Differing.{differing}
+use Rattle.division.specs.Word.{word, EndsInChecksum}
+use Rattle.division.specs.Differing.{differing, firstDiffering, lastDiffering}
 use Rattle.division.specs.Facts.{Facts}
 use Rattle.checksum.specs.declared.Channel.the-variants.{A, B}
+use Rattle.checksum.specs.Channel.{startOf}
 use Rattle.checksum.specs.Checksums.{headerPolynomial, headerStart, headerBits, framePolynomial, frameChecksum}
 
 -- Every fact of division holds for the header checksum, and for the frame checksum.
@@ -35,6 +36,20 @@ FramesFour =
     (start : ℕ) (x y : List Bool) → length x ≡ length y → length x ≤ 8 * 262 → (x ≡ y → ⊥)
     → EndsInChecksum 24 framePolynomial start x → EndsInChecksum 24 framePolynomial start y
     → 4 ≤ differing x y
+
+-- Neither bound can be raised. Two words whose messages are one bit, 0 and 1, differ first in place 0 and last in place 24; and two
+-- of 2,049 bits, whose messages differ in their first two, differ in four.
+abbrev pub BurstExact : Type 0
+BurstExact =
+    let x : List Bool = word 24 framePolynomial (startOf A) (false ∷ []) in
+    let y : List Bool = word 24 framePolynomial (startOf A) (true ∷ []) in
+    (firstDiffering x y ≡ 0) × (lastDiffering x y ≡ 24)
+
+abbrev pub FourExact : Type 0
+FourExact =
+    differing (word 24 framePolynomial (startOf A) (false ∷ false ∷ replicate 2023 false))
+    (word 24 framePolynomial (startOf A) (true ∷ true ∷ replicate 2023 false))
+    ≡ 4
 
 -- The public catalogue's check value for the header checksum's polynomial and start value, of the nine ASCII digits 1 to 9.
 abbrev pub HeaderCheckValue : Type 0

@@ -5,6 +5,8 @@ use Prim.Native.Nat.{_-_, _/_, _^_, _≤_, _<_}
 use mathlib.Core.List.{[], _∷_}
 use native.Mathlib.Nat.{sub-zero}
 use native.Mathlib.Omega.{arith}
+use lib.Bits.{bitAnd}
+use lib.Dec.{eqb}
 use Rattle.division.specs.Bits.{bits}
 use Rattle.division.specs.Division.{checksum}
 use Rattle.division.proofs.MachineLaws.{low-bit}
@@ -48,7 +50,9 @@ loop-again : tie.Need-loop-again Inv-loop μ-loop
 loop-again c =
     let a = c .before .before .before .args in
     let l = c .before .before .loop in
-    let e = c .step .ensures .value ∙ ap (λ b. checksum (a .width) (a .polynomial) (l .r) (b ∷ [])) (low-bit (a .n / 2 ^ (a .count - 1 - l .fed))) in (
+    let next = a .n / 2 ^ (a .count - 1 - l .fed) in
+    let bit : c .step .result ≡ checksum (a .width) (a .polynomial) (l .r) (eqb (bitAnd next 1) 1 ∷ []) = c .step .ensures .value in
+    let e = bit ∙ ap (λ b. checksum (a .width) (a .polynomial) (l .r) (b ∷ [])) (low-bit next) in (
       omega arith,
       c .step .ensures .small,
       turn-bit (a .width) (a .polynomial) (l .r) (c .step .result) (a .n) (a .count) (l .fed) (omega arith) e ∙ l .inv .2,

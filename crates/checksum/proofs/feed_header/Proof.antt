@@ -3,7 +3,6 @@ use borrow.Author.Needs.{needs}
 use mathlib.Core.List.{[], _∷_}
 use Rattle.division.specs.Bits.{bits}
 use Rattle.division.proofs.TurnLaws.{fed-append}
-use Rattle.checksum.specs.Checksums.{headerPolynomial}
 use Rattle.checksum.proofs.feed_header.Statement.{statement}
 use Rattle.checksum.proofs.feed_header.Tie as tie
 use Rattle.checksum.proofs.feed_header.Reads as reads
@@ -26,9 +25,13 @@ feed-requires-2 c κs = search needs
 returns : tie.Need-returns
 returns c =
     let a = c .before .before .before .before .args in
-    fed-append 11 headerPolynomial (a .register) _ _ (a .sync ∷ []) _ (c .before .before .before .step .ensures)
-    (fed-append 11 headerPolynomial _ _ _ (a .startup ∷ []) _ (c .before .before .step2 .ensures)
-    (fed-append 11 headerPolynomial _ _ _ (bits 11 (a .id)) (bits 7 (a .words)) (c .before .feed .ensures) (c .feed2 .ensures)))
+    let sync = c .before .before .before .step in
+    let startup = c .before .before .step2 in
+    let id = c .before .feed in
+    let words = c .feed2 in
+    let from-id = fed-append 11 0x385 (startup .result) (id .result) _ (bits 11 (a .id)) (bits 7 (a .words)) (id .ensures) (words .ensures) in
+    let from-startup = fed-append 11 0x385 (sync .result) (startup .result) _ (a .startup ∷ []) _ (startup .ensures) from-id in
+    fed-append 11 0x385 (a .register) (sync .result) _ (a .sync ∷ []) _ (sync .ensures) from-startup
 
 pub feed-header-spec : {M : Type 1} → statement M
 feed-header-spec =
