@@ -23,6 +23,12 @@ fn frame(channel: u8, bytes: &[u8]) {
     text(b"\n");
 }
 
+// The 20 bits under a header's checksum: sync, startup, 11 of frame ID, 7 of payload length.
+fn message(sync: bool, startup: bool, id: u16, words: u8) -> u64 {
+    let indicators = sync as u64 % 2 * 2 + startup as u64 % 2;
+    (indicators * 2048 + id as u64 % 2048) * 128 + words as u64 % 128
+}
+
 // `header SYNC STARTUP ID WORDS VALUE`
 fn header(sync: bool, startup: bool, id: u16, words: u8) {
     text(b"header");
@@ -33,7 +39,7 @@ fn header(sync: bool, startup: bool, id: u16, words: u8) {
     text(b" ");
     io::print_hex(
         STDOUT_FILENO,
-        checksum::header_checksum(sync, startup, id, words) as u64,
+        checksum::header_checksum(message(sync, startup, id, words), 20) as u64,
         3,
     );
     text(b"\n");

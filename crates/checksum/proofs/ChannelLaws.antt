@@ -1,6 +1,6 @@
 -- What an entry learns of a channel number from what it names.
 use Prim.Native.Nat.{ℕ}
-use mathlib.Core.Path.{_≡_, refl}
+use mathlib.Core.Path.{_≡_, refl, ap}
 use mathlib.Core.Bool.{Bool, true, false, cond}
 use native.Mathlib.Omega.{arith}
 use Rattle.checksum.specs.declared.Channel.{Channel}
@@ -23,3 +23,7 @@ named-is number channel e = picked-is (notAChannel number) (channelOf number) ch
 pub named-not : (number : ℕ) → namedBy number ≡ NotAChannel → notAChannel number ≡ true
 unfolding namedBy
 named-not number e = picked-not (notAChannel number) (channelOf number) e
+
+pub is-named : (number : ℕ) → notAChannel number ≡ false → namedBy number ≡ Is (channelOf number)
+unfolding namedBy
+is-named number e = ap (λ (b : Bool). cond b NotAChannel (Is (channelOf number))) e

@@ -5,11 +5,11 @@
 // section 4.5.1, over any width.
 ghost use mathlib.Core.Path.{_≡_};
 ghost use mathlib.Core.List.{[], _∷_};
-ghost use Prim.Native.Nat.{_<_, _≤_, _^_};
+ghost use Prim.Native.Nat.{_<_, _≤_, _^_, min};
 ghost use Rattle.division.specs.Bits.{bits, bytesBits};
 ghost use Rattle.division.specs.Division.{Fed};
 ghost use Rattle.checksum.specs.Channel.{startOf, namedBy};
-ghost use Rattle.checksum.specs.Checksums.{headerPolynomial, headerBits, headerChecksum, framePolynomial, frameChecksum};
+ghost use Rattle.checksum.specs.Checksums.{headerDivision, framePolynomial, frameChecksum};
 ghost use Rattle.checksum.specs.FrameChecksum.{told, FrameChecksumSays};
 
 pub enum Channel {
@@ -106,8 +106,8 @@ fn step(width: u32, polynomial: u32, register: u32, next: bool) -> u32
 }
 
 // The register after the `count` low bits of `n`, the most significant first.
-fn feed(width: u32, polynomial: u32, register: u32, n: u32, count: u32) -> u32
-    requires { ⌜ (0 < width) × (width < 32) × (polynomial < 2 ^ width) × (register < 2 ^ width) × (count ≤ 32) ⌝ }
+fn feed(width: u32, polynomial: u32, register: u32, n: u64, count: u32) -> u32
+    requires { ⌜ (0 < width) × (width < 32) × (polynomial < 2 ^ width) × (register < 2 ^ width) × (count ≤ 64) ⌝ }
     ensures { λ r. ⌜ Fed width polynomial register (bits count n) r ⌝ }
 {
     let mut r = register;
@@ -120,22 +120,24 @@ fn feed(width: u32, polynomial: u32, register: u32, n: u32, count: u32) -> u32
     r
 }
 
-// The register after a header's 20 bits: sync, startup, frame ID, payload length.
-fn feed_header(register: u32, sync: bool, startup: bool, id: u16, words: u8) -> u32
-    requires { ⌜ register < 2 ^ 11 ⌝ }
-    ensures { λ r. ⌜ Fed 11 headerPolynomial register (headerBits sync startup id words) r ⌝ }
+// The header checksum of a message: of the `count` low bits of a number, the most significant first. A header's message has 20.
+// Of more than 64, the 64 that there are.
+pub fn header_checksum(message: u64, count: u32) -> u16
+    ensures { λ r. ⌜ r ≡ headerDivision (bits (min count 64) message) ⌝ }
 {
-    let r = step(HEADER_WIDTH, HEADER_POLYNOMIAL, register, sync);
-    let r = step(HEADER_WIDTH, HEADER_POLYNOMIAL, r, startup);
-    let r = feed(HEADER_WIDTH, HEADER_POLYNOMIAL, r, id as u32, 11);
-    feed(HEADER_WIDTH, HEADER_POLYNOMIAL, r, words as u32, 7)
+    feed(
+        HEADER_WIDTH,
+        HEADER_POLYNOMIAL,
+        HEADER_START,
+        message,
+        up_to_64(count),
+    ) as u16
 }
 
-// The header checksum. Of the ID 11 bits count, of the payload length 7.
-pub fn header_checksum(sync: bool, startup: bool, id: u16, words: u8) -> u16
-    ensures { λ r. ⌜ r ≡ headerChecksum sync startup id words ⌝ }
+fn up_to_64(count: u32) -> u32
+    ensures { λ r. ⌜ (r ≡ min count 64) × (r ≤ 64) ⌝ }
 {
-    feed_header(HEADER_START, sync, startup, id, words) as u16
+    if count < 64 { count } else { 64 }
 }
 
 // The register after bytes, each most significant bit first.
@@ -146,7 +148,7 @@ fn feed_bytes(register: u32, bytes: &[u8]) -> u32
     let mut r = register;
     let mut i = 0;
     while i < bytes.len() {
-        r = feed(FRAME_WIDTH, FRAME_POLYNOMIAL, r, bytes[i] as u32, 8);
+        r = feed(FRAME_WIDTH, FRAME_POLYNOMIAL, r, bytes[i] as u64, 8);
         i += 1;
     }
     r

@@ -1,5 +1,6 @@
 pub mod ExorLaws
 pub mod BitsLaws
+pub mod BytesLaws
 pub mod RegisterLaws
 pub mod Linearity
 pub mod Injectivity

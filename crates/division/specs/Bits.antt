@@ -1,9 +1,9 @@
 -- Bits in the order in which they are sent, most significant first: of a number, of bytes, and back.
-use Prim.Native.Nat.{ℕ, zero, suc, _+_, _*_, _/_, _%_, _^_}
+use Prim.Native.Nat.{ℕ, zero, suc, _+_, _*_, _/_, _%_, _^_, _<_}
 use mathlib.Core.Bool.{Bool, true, false}
 use mathlib.Core.List.{List, [], _∷_, _++_}
 use lib.Dec.{eqb}
-use lib.ListN.{length}
+use lib.ListN.{length, getD, take, drop}
 
 -- The lowest bit of a number.
 abbrev pub odd : ℕ → Bool
@@ -28,3 +28,12 @@ number (b ∷ l) = bit b * 2 ^ length l + number l
 unfoldable pub bytesBits : List ℕ → List Bool
 bytesBits [] = []
 bytesBits (byte ∷ l) = bits 8 byte ++ bytesBits l
+
+-- The bytes whose bits these are, `count` of them, each of eight bits.
+unfoldable pub bytesOf : ℕ → List Bool → List ℕ
+bytesOf zero x = []
+bytesOf (suc count) x = number (take 8 x) ∷ bytesOf count (drop 8 x)
+
+-- These numbers are bytes: each is below 256. (Past the end of a list `getD` gives the 0 that stands here.)
+abbrev pub AreBytes : List ℕ → Type 0
+AreBytes l = (i : ℕ) → getD l i 0 < 256

@@ -1,11 +1,44 @@
 -- `first` is told by the order, and nothing else is: what every entry cites for its number.
 use Prim.Native.Nat.{ℕ, zero, suc}
 use mathlib.Core.Path.{_≡_, refl, ap, _∙_}
-use mathlib.Core.Bool.{true, false, false≢true}
+use mathlib.Core.Bool.{Bool, true, false, false≢true}
 use mathlib.Core.List.{List, [], _∷_, _++_, List·Memᴰ, List·Memᴰ·head, List·Memᴰ·tail}
 use mathlib.Core.Logic.{_⊎_, inl, inr}
 use native.Mathlib.Omega.{arith}
-use Rattle.refusal.specs.Refusal.{Line, _when_, first, noneHolds, numbers, numbered, FirstAt, InOrder}
+use Rattle.refusal.specs.Refusal.{Line, _when_, first, ifAccepted, noneHolds, numbers, numbered, FirstAt, InOrder}
+
+-- ---- one line of the list
+
+-- its condition does not hold: the rest decides
+pub first-skip : (n : ℕ) (l : List Line) {c : Bool} → c ≡ false → first (n when c ∷ l) ≡ first l
+unfolding first
+first-skip n l e = ap (λ (b : Bool). first (n when b ∷ l)) e
+
+-- its condition holds: it is the one
+pub first-here : (n : ℕ) (l : List Line) {c : Bool} → c ≡ true → first (n when c ∷ l) ≡ n
+unfolding first
+first-here n l e = ap (λ (b : Bool). first (n when b ∷ l)) e
+
+-- no line is left: nothing is refused
+pub first-end : first [] ≡ 0
+unfolding first
+first-end = refl
+
+-- nothing is refused: the first condition does not hold, and none of the rest
+pub first-zero : (n : ℕ) (c : Bool) (l : List Line) → first (suc n when c ∷ l) ≡ 0 → (c ≡ false) × (first l ≡ 0)
+unfolding first
+first-zero n false l e = (refl, e)
+first-zero n true l e = absurd (omega arith)
+
+-- ---- what comes back beside the number
+
+module _ {A : Type 0} where
+  pub if-accepted : (n : ℕ) (this other : A) → n ≡ 0 → ifAccepted n this other ≡ this
+  if-accepted n this other e = ap (λ (k : ℕ). ifAccepted k this other) e
+
+  pub if-refused : (n : ℕ) (this other : A) → (n ≡ 0 → ⊥) → ifAccepted n this other ≡ other
+  if-refused zero this other h = absurd (h refl)
+  if-refused (suc n) this other h = refl
 
 -- ---- what `first` gives
 

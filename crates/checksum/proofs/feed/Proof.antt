@@ -34,6 +34,9 @@ sub-place c = search needs
 sub-place-2 : tie.Need-sub-place-2 Inv-loop μ-loop
 sub-place-2 c = search needs
 
+cast-step : tie.Need-cast-step Inv-loop μ-loop
+cast-step c = search needs
+
 shr-step : tie.Need-shr-step Inv-loop μ-loop
 shr-step c = search needs
 
@@ -74,6 +77,7 @@ feed-spec =
     loop-holds
     sub-place
     sub-place-2
+    cast-step
     shr-step
     step-requires
     add-fed

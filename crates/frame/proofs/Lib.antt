@@ -1,0 +1,4 @@
+pub mod NumberLaws
+pub mod HeaderLaws
+pub mod OverLaws
+pub mod WriteLaws

@@ -1,0 +1,51 @@
+-- The statement of `write`, from the number that the order gives.
+use Prim.Native.Nat.{ℕ, suc, _+_, _≤_}
+use mathlib.Core.Path.{_≡_, refl, sym, ap, _∙_}
+use mathlib.Core.Bool.{Bool, true, false, false≢true, _||_}
+use mathlib.Core.List.{List}
+use borrow.Author.Tests.{ltb-false}
+use lib.ListN.{length}
+use Rattle.refusal.specs.Refusal.{ifAccepted}
+use Rattle.division.specs.Bits.{odd}
+use Rattle.checksum.specs.Channel.{channelOf}
+use Rattle.frame.specs.declared.header.Fields.{Fields}
+use Rattle.frame.specs.declared.writer.Writing.{Writing}
+use Rattle.frame.specs.declared.writer.Writing.the-variants.{Written}
+use Rattle.frame.specs.Refusals.{badPayload}
+use Rattle.frame.specs.Write.{frameBytes, over, Told, refused, told, refusal, WriteSays}
+
+-- neither of two conditions holds
+pub or-first : (a b : Bool) → a || b ≡ false → a ≡ false
+or-first false b e = refl
+or-first true b e = absurd (false≢true (sym e))
+
+pub or-second : (a b : Bool) → a || b ≡ false → b ≡ false
+or-second false b e = e
+or-second true b e = absurd (false≢true (sym e))
+
+-- a refusal with its number, and the output as it was
+pub write-refused : (channel : ℕ) (fields : Fields) (payload output : List ℕ) (answer : Writing) (n : ℕ)
+    → told answer ≡ refused (suc n) → refusal channel fields payload output ≡ suc n
+    → WriteSays channel fields payload output output answer
+write-refused channel fields payload output answer n t e =
+    record {
+      answers = t ∙ ap (λ (k : ℕ). record { number = k; length = ifAccepted k (8 + length payload) 0 }) (sym e);
+      writes = ap (λ (k : ℕ). ifAccepted k (over (frameBytes (channelOf channel) fields payload) output) output) (sym e);
+    }
+
+-- no refusal, and the frame over the output's front
+pub write-accepted : (channel : ℕ) (fields : Fields) (payload output after : List ℕ) (size : ℕ)
+    → refusal channel fields payload output ≡ 0 → size ≡ 8 + length payload
+    → after ≡ over (frameBytes (channelOf channel) fields payload) output
+    → WriteSays channel fields payload output after (Written size)
+write-accepted channel fields payload output after size e s w =
+    record {
+      answers =
+          ap (λ (k : ℕ). record { number = 0; length = k }) s
+          ∙ ap (λ (k : ℕ). record { number = k; length = ifAccepted k (8 + length payload) 0 }) (sym e);
+      writes = w ∙ ap (λ (k : ℕ). ifAccepted k (over (frameBytes (channelOf channel) fields payload) output) output) (sym e);
+    }
+
+-- a payload that is not refused has at most 254 bytes
+pub payload-at-most : (payload : List ℕ) → badPayload payload ≡ false → length payload ≤ 254
+payload-at-most payload e = ltb-false 254 (length payload) (or-second (odd (length payload)) _ e)

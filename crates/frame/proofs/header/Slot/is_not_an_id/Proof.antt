@@ -1,0 +1,15 @@
+-- `is_not_an_id` meets its contract: the first test decides, or else the second.
+use borrow.Author.Tests.{lt-ltb, le-ltb}
+use Rattle.frame.proofs.header.Slot.is_not_an_id.Statement.{statement}
+use Rattle.frame.proofs.header.Slot.is_not_an_id.Tie as tie
+use Rattle.frame.proofs.header.Slot.is_not_an_id.Reads as reads
+use Rattle.frame.proofs.header.Slot.is_not_an_id.Lts as lts
+
+returns : tie.Need-returns
+returns c = rw (lt-ltb (c .before .before .args .self .0) 1 (c .if1 .taken))
+
+returns-2 : tie.Need-returns-2
+returns-2 c = rw (le-ltb (c .before .before .before .args .self .0) 1 (c .before .if1 .left))
+
+pub is-not-an-id-spec : {M : Type 1} → statement M
+is-not-an-id-spec = tie.close (tie.spec returns returns-2)

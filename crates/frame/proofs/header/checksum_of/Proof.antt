@@ -1,0 +1,21 @@
+-- `checksum_of` meets its contract: the bits fed are the 20 under the checksum.
+use Rattle.frame.specs.Read.{headerIn}
+use borrow.Author.Needs.{needs}
+use mathlib.Core.Path.{_∙_, ap}
+use Rattle.checksum.specs.Checksums.{headerDivision}
+use Rattle.frame.proofs.HeaderLaws.{covered-bits}
+use Rattle.frame.proofs.header.checksum_of.Statement.{statement}
+use Rattle.frame.proofs.header.checksum_of.Tie as tie
+use Rattle.frame.proofs.header.checksum_of.Reads as reads
+use Rattle.frame.proofs.header.checksum_of.Lts as lts
+use Rattle.checksum.proofs.header_checksum.Reads as header-checksum-reads
+
+header-checksum-requires : tie.Need-header-checksum-requires
+header-checksum-requires c κs = search needs
+
+returns : tie.Need-returns
+unfolding headerIn
+returns c = c .«header-checksum» .ensures ∙ ap headerDivision (covered-bits (c .before .args .number))
+
+pub checksum-of-spec : {M : Type 1} → statement M
+checksum-of-spec = tie.close (tie.spec header-checksum-requires returns)

@@ -1,0 +1,89 @@
+-- `header` meets its contract: a refused case has all zeros.
+use mathlib.Core.Path.{_≡_, sym, ap}
+use Rattle.frame.specs.declared.reader.Reading.{Reading}
+use Rattle.frame.specs.Read.{noHeader, told}
+use borrow.Author.Needs.{needs}
+use Rattle.frame.proofs.reader.Reading.header.Statement.{statement}
+use Rattle.frame.proofs.reader.Reading.header.Tie as tie
+use Rattle.frame.proofs.reader.Reading.header.Reads as reads
+use Rattle.frame.proofs.reader.Reading.header.Lts as lts
+
+zeros : {r s : Reading} → r ≡ s → told r .header ≡ told s .header
+zeros e = ap (λ (x : Reading). told x .header) e
+
+enum-known-self : tie.Need-enum-known-self
+enum-known-self c = search needs
+
+enum-told : tie.Need-enum-told
+enum-told c = search needs
+
+enum-told-2 : tie.Need-enum-told-2
+enum-told-2 c = search needs
+
+enum-told-3 : tie.Need-enum-told-3
+enum-told-3 c = search needs
+
+enum-told-4 : tie.Need-enum-told-4
+enum-told-4 c = search needs
+
+enum-told-5 : tie.Need-enum-told-5
+enum-told-5 c = search needs
+
+enum-told-6 : tie.Need-enum-told-6
+enum-told-6 c = search needs
+
+enum-told-7 : tie.Need-enum-told-7
+enum-told-7 c = search needs
+
+enum-told-8 : tie.Need-enum-told-8
+enum-told-8 c = search needs
+
+returns : tie.Need-returns
+returns c = search needs
+
+returns-2 : tie.Need-returns-2
+returns-2 c = zeros (sym (c .enum-told .given .1))
+
+returns-3 : tie.Need-returns-3
+returns-3 c = zeros (sym (c .enum-told2 .given .1))
+
+returns-4 : tie.Need-returns-4
+returns-4 c = zeros (sym (c .enum-told3 .given .1))
+
+returns-5 : tie.Need-returns-5
+returns-5 c = zeros (sym (c .enum-told4 .given .1))
+
+returns-6 : tie.Need-returns-6
+returns-6 c = zeros (sym (c .enum-told5 .given .1))
+
+returns-7 : tie.Need-returns-7
+returns-7 c = zeros (sym (c .enum-told6 .given .1))
+
+returns-8 : tie.Need-returns-8
+returns-8 c = zeros (sym (c .enum-told7 .given .1))
+
+returns-9 : tie.Need-returns-9
+returns-9 c = zeros (sym (c .enum-told8 .given .1))
+
+pub header-spec : {M : Type 1} → statement M
+header-spec =
+    tie.close
+    (tie.spec
+    enum-known-self
+    enum-told
+    enum-told-2
+    enum-told-3
+    enum-told-4
+    enum-told-5
+    enum-told-6
+    enum-told-7
+    enum-told-8
+    returns
+    returns-2
+    returns-3
+    returns-4
+    returns-5
+    returns-6
+    returns-7
+    returns-8
+    returns-9)

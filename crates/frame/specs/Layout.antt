@@ -1,0 +1,47 @@
+-- What a frame is (01, "Frame layout"): which bits its fields make, in the order in which they are sent.
+use Prim.Native.Nat.{ℕ, _*_, _≤_}
+use mathlib.Core.Path.{_≡_}
+use mathlib.Core.Bool.{Bool, true}
+use mathlib.Core.List.{List, _∷_, _++_}
+use lib.ListN.{length}
+use Rattle.division.specs.Bits.{bits, bytesBits, AreBytes}
+use Rattle.checksum.specs.declared.Channel.{Channel}
+use Rattle.checksum.specs.Checksums.{headerChecksum, frameDivision}
+use Rattle.frame.specs.declared.header.Header.{Header}
+
+-- The table of 01: five indicators of one bit, 11 bits of frame ID, 7 of payload length, 11 of header checksum, 6 of cycle.
+abbrev pub wholeHeader : Header → List Bool
+wholeHeader h =
+    h .reserved ∷ h .preamble ∷ h .«null_frame_bit» ∷ h .sync ∷ h .startup
+    ∷ (bits 11 (h .id .0) ++ (bits 7 (h .words) ++ (bits 11 (h .checksum) ++ bits 6 (h .cycle .0))))
+
+-- "Five header bytes, payload, three trailer bytes".
+abbrev pub frameBits : Header → List ℕ → ℕ → List Bool
+frameBits header payload trailer = wholeHeader header ++ (bytesBits payload ++ bits 24 trailer)
+
+-- The header checksum that belongs to a header: "over sync, startup, frame ID, payload length, in that order".
+abbrev pub headerChecksumOf : Header → ℕ
+headerChecksumOf h = headerChecksum (h .sync) (h .startup) (h .id .0) (h .words)
+
+-- The frame checksum that belongs behind a header and a payload: "over the whole header (its checksum included) and the payload".
+abbrev pub frameChecksumOf : Channel → Header → List ℕ → ℕ
+frameChecksumOf channel header payload = frameDivision channel (wholeHeader header ++ bytesBits payload)
+
+-- These bytes are a frame on this channel, with this header and this payload.
+pub record Frame (channel : Channel) (bytes : List ℕ) (header : Header) (payload : List ℕ) : Type 0 where
+  -- A byte string is one of numbers below 256, and so is a payload.
+  pub areBytes : AreBytes bytes
+  pub payloadAreBytes : AreBytes payload
+  -- The bytes' bits are those of the layout, the frame checksum that belongs there included.
+  pub layout : bytesBits bytes ≡ frameBits header payload (frameChecksumOf channel header payload)
+  -- The header checksum is the one that belongs there.
+  pub checksum : header .checksum ≡ headerChecksumOf header
+  -- "frame ID, 1 to 2047".
+  pub id : (1 ≤ header .id .0) × (header .id .0 ≤ 2047)
+  -- "payload length in 2-byte words, 0 to 127", which is the payload's.
+  pub words : header .words ≤ 127
+  pub payloadLength : length payload ≡ 2 * header .words
+  -- "cycle, 0 to 63".
+  pub cycle : header .cycle .0 ≤ 63
+  -- Startup is set only with sync.
+  pub startup : header .startup ≡ true → header .sync ≡ true

@@ -1,0 +1,121 @@
+-- The entries `read` and `payload`: what they answer for a channel number and bytes.
+use Prim.Native.Nat.{ℕ, _-_}
+use mathlib.Core.Path.{_≡_}
+use mathlib.Core.Bool.{Bool, false}
+use mathlib.Core.List.{List, [], _∷_}
+use lib.ListN.{length, getD, take, drop}
+use Rattle.refusal.specs.Refusal.{Line, _when_, first, ifAccepted}
+use Rattle.division.specs.Bits.{number, bytesBits}
+use Rattle.checksum.specs.declared.Channel.{Channel}
+use Rattle.checksum.specs.Channel.{notAChannel, channelOf}
+use Rattle.frame.specs.declared.header.Header.{Header}
+use Rattle.frame.specs.declared.reader.Reading.{Reading}
+use Rattle.frame.specs.declared.reader.Reading.the-variants.{Accepted, NotAChannel, TooShort, BadSize, HeaderChecksumDiffers, WordsNotSize, IdZero, StartupWithoutSync, FrameChecksumDiffers}
+use Rattle.frame.specs.Refusals.{tooShort, badSize, headerChecksumDiffers, wordsNotSize, idZero, startupWithoutSync, frameChecksumDiffers}
+
+-- ---- what is read
+
+-- The bit at a place, and the number in `width` bits from a place on. Places count from 0 in sending order.
+abbrev pub flag : ℕ → List Bool → Bool
+flag place x = getD x place false
+
+abbrev pub field : ℕ → ℕ → List Bool → ℕ
+field place width x = number (take width (drop place x))
+
+-- The header at the front of bits: each field of 01's table behind the one before it.
+unfoldable pub headerIn : List Bool → Header
+headerIn x =
+    record {
+      reserved = flag 0 x;
+      preamble = flag 1 x;
+      «null_frame_bit» = flag 2 x;
+      sync = flag 3 x;
+      startup = flag 4 x;
+      id = record { 0 = field 5 11 x };
+      words = field 16 7 x;
+      checksum = field 23 11 x;
+      cycle = record { 0 = field 34 6 x };
+    }
+
+abbrev pub headerRead : List ℕ → Header
+headerRead bytes = headerIn (bytesBits bytes)
+
+-- The payload: "bytes 5 up to size minus 3".
+abbrev pub payloadRead : List ℕ → List ℕ
+payloadRead bytes = take (length bytes - 8) (drop 5 bytes)
+
+-- The frame checksum in the three trailer bytes.
+abbrev pub trailerRead : List ℕ → ℕ
+trailerRead bytes = number (bytesBits (drop (length bytes - 3) bytes))
+
+-- ---- what reading answers
+
+-- All zeros, all flags clear: what comes back beside a refusal.
+abbrev pub noHeader : Header
+noHeader =
+    record {
+      reserved = false;
+      preamble = false;
+      «null_frame_bit» = false;
+      sync = false;
+      startup = false;
+      id = record { 0 = 0 };
+      words = 0;
+      checksum = 0;
+      cycle = record { 0 = 0 };
+    }
+
+-- What an answer says in 01's numbers: the refusal number, 0 for none, and the header.
+pub record Told : Type 0 where
+  pub number : ℕ
+  pub header : Header
+
+abbrev pub refused : ℕ → Told
+refused n = record { number = n; header = noHeader }
+
+abbrev pub told : Reading → Told
+told (Accepted h) = record { number = 0; header = h }
+told NotAChannel = refused 1
+told TooShort = refused 2
+told BadSize = refused 3
+told HeaderChecksumDiffers = refused 4
+told WordsNotSize = refused 5
+told IdZero = refused 6
+told StartupWithoutSync = refused 7
+told FrameChecksumDiffers = refused 8
+
+-- The refusals of reading on a channel, and, before them, that of a number that names none: "Read: 1 to 8 as numbered".
+abbrev pub refusalsOn : Channel → List ℕ → List Line
+refusalsOn channel bytes =
+    2 when tooShort bytes
+    ∷ 3 when badSize bytes
+    ∷ 4 when headerChecksumDiffers (headerRead bytes)
+    ∷ 5 when wordsNotSize (headerRead bytes) bytes
+    ∷ 6 when idZero (headerRead bytes)
+    ∷ 7 when startupWithoutSync (headerRead bytes .startup) (headerRead bytes .sync)
+    ∷ 8 when frameChecksumDiffers channel bytes (trailerRead bytes)
+    ∷ []
+
+abbrev pub refusals : ℕ → List ℕ → List Line
+refusals channel bytes = 1 when notAChannel channel ∷ refusalsOn (channelOf channel) bytes
+
+-- What is right, given the number of the refusal.
+abbrev pub rule : ℕ → List ℕ → Told
+rule refusal bytes = record { number = refusal; header = ifAccepted refusal (headerRead bytes) noHeader }
+
+abbrev pub partRule : ℕ → List ℕ → List ℕ
+partRule refusal bytes = ifAccepted refusal (payloadRead bytes) []
+
+-- ---- the statements
+
+abbrev pub ReadSays : ℕ → List ℕ → Reading → Type 0
+ReadSays channel bytes answer = told answer ≡ rule (first (refusals channel bytes)) bytes
+
+abbrev pub ReadOnSays : Channel → List ℕ → Reading → Type 0
+ReadOnSays channel bytes answer = told answer ≡ rule (first (refusalsOn channel bytes)) bytes
+
+abbrev pub PayloadSays : ℕ → List ℕ → List ℕ → Type 0
+PayloadSays channel bytes payload = payload ≡ partRule (first (refusals channel bytes)) bytes
+
+abbrev pub PartSays : Reading → List ℕ → List ℕ → Type 0
+PartSays reading bytes payload = payload ≡ partRule (told reading .number) bytes

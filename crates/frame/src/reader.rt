@@ -1,0 +1,139 @@
+// Frames read from bytes.
+ghost use mathlib.Core.Path.{_≡_};
+ghost use Prim.Native.Nat.{_≤_};
+ghost use lib.ListN.{length};
+ghost use Rattle.division.specs.Bits.{number as Bits·number, bytesBits};
+ghost use Rattle.frame.specs.Read.{told, ReadSays, ReadOnSays, PartSays, PayloadSays};
+use crate::header;
+use crate::header::Header;
+use checksum::Channel;
+use checksum::Named;
+
+// What reading answers: the header, or what is wrong with the bytes.
+pub enum Reading {
+    Accepted(Header),
+    NotAChannel,
+    TooShort,
+    BadSize,
+    HeaderChecksumDiffers,
+    WordsNotSize,
+    IdZero,
+    StartupWithoutSync,
+    FrameChecksumDiffers,
+}
+
+impl Reading {
+    // 01's number: 0, or that of the refusal.
+    pub fn number(self) -> u8
+        ensures { λ r. ⌜ r ≡ told self .number ⌝ }
+    {
+        match self {
+            Reading::Accepted(_) => 0,
+            Reading::NotAChannel => 1,
+            Reading::TooShort => 2,
+            Reading::BadSize => 3,
+            Reading::HeaderChecksumDiffers => 4,
+            Reading::WordsNotSize => 5,
+            Reading::IdZero => 6,
+            Reading::StartupWithoutSync => 7,
+            Reading::FrameChecksumDiffers => 8,
+        }
+    }
+
+    // The header, all zeros with a refusal.
+    pub fn header(self) -> Header
+        ensures { λ r. ⌜ r ≡ told self .header ⌝ }
+    {
+        match self {
+            Reading::Accepted(header) => header,
+            Reading::NotAChannel => Header::NONE,
+            Reading::TooShort => Header::NONE,
+            Reading::BadSize => Header::NONE,
+            Reading::HeaderChecksumDiffers => Header::NONE,
+            Reading::WordsNotSize => Header::NONE,
+            Reading::IdZero => Header::NONE,
+            Reading::StartupWithoutSync => Header::NONE,
+            Reading::FrameChecksumDiffers => Header::NONE,
+        }
+    }
+}
+
+// Reads a frame on a channel that is given by its number.
+pub fn read(channel: u8, bytes: &[u8]) -> Reading
+    ensures { λ r. ⌜ ReadSays channel (now (bytes .entry)) r ⌝ }
+{
+    let Named::Is(named) = Channel::named(channel) else {
+        return Reading::NotAChannel;
+    };
+    read_on(named, bytes)
+}
+
+// Reads a frame on a channel. The tests come in 01's order: which refusal is given is part of the answer.
+pub fn read_on(channel: Channel, bytes: &[u8]) -> Reading
+    ensures { λ r. ⌜ ReadOnSays channel (now (bytes .entry)) r ⌝ }
+{
+    if bytes.len() < 8 {
+        return Reading::TooShort;
+    }
+    if bytes.len() % 2 == 1 {
+        return Reading::BadSize;
+    }
+    if 262 < bytes.len() {
+        return Reading::BadSize;
+    }
+    let sent = number_of(&bytes[0..5]);
+    let header = header::unpacked(sent);
+    if header.checksum != header::checksum_of(sent) {
+        return Reading::HeaderChecksumDiffers;
+    }
+    if 8 + 2 * header.words as usize != bytes.len() {
+        return Reading::WordsNotSize;
+    }
+    if header.id.0 == 0 {
+        return Reading::IdZero;
+    }
+    if header::startup_without_sync(header.startup, header.sync) {
+        return Reading::StartupWithoutSync;
+    }
+    let end = bytes.len() - 3;
+    let trailer = number_of(&bytes[end..]);
+    if trailer != checksum::frame_checksum_on(channel, &bytes[0..end]) as u64 {
+        return Reading::FrameChecksumDiffers;
+    }
+    Reading::Accepted(header)
+}
+
+// The number that at most eight bytes make, the most significant first.
+fn number_of(bytes: &[u8]) -> u64
+    requires { ⌜ length (now bytes) ≤ 8 ⌝ }
+    ensures { λ r. ⌜ r ≡ Bits·number (bytesBits (now (bytes .entry))) ⌝ }
+{
+    let mut r = 0;
+    let mut i = 0;
+    while i < bytes.len() {
+        r = r * 256 + bytes[i] as u64;
+        i += 1;
+    }
+    r
+}
+
+// The payload of a frame: the caller's own bytes from 5 up to size minus 3. An empty part where the frame is refused.
+pub fn payload(channel: u8, bytes: &[u8]) -> &[u8]
+    ensures { λ r. ⌜ PayloadSays channel (now (bytes .entry)) (now r) ⌝ }
+{
+    part(read(channel, bytes), bytes)
+}
+
+// The payload of bytes that have been read already, by what reading answered.
+pub fn part(reading: Reading, bytes: &[u8]) -> &[u8]
+    ensures { λ r. ⌜ PartSays reading (now (bytes .entry)) (now r) ⌝ }
+{
+    if reading.number() != 0 {
+        return &bytes[0..0];
+    }
+    if bytes.len() < 8 {
+        return &bytes[0..0];
+    }
+    let end = bytes.len() - 3;
+    &bytes[5..end]
+}

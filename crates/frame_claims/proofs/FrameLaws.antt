@@ -1,0 +1,127 @@
+-- The layout rule and what reading tries: bytes in three parts, and the bits of each.
+use Prim.Native.Nat.{ℕ, suc, _+_, _*_, _-_, _/_, _%_, _^_, _<_, _≤_}
+use mathlib.Core.Path.{_≡_, refl, sym, ap, ap₂, _∙_}
+use mathlib.Core.Bool.{Bool, true, false}
+use mathlib.Core.List.{List, [], _∷_, _++_, append-assoc, append-nil}
+use native.Mathlib.Nat.{mod-eq-of-lt, lt-of-lt-of-le, pow-le-pow-right}
+use native.Mathlib.Omega.{arith}
+use lib.ListN.{length, take, drop, length-append, length-take, length-drop, take-append-drop}
+use lib.Seq.{length-take-le, take-at, drop-at, take-all, take-add, drop-drop}
+use Rattle.division.specs.Bits.{bits, number, bytesBits, bytesOf, AreBytes}
+use Rattle.division.proofs.BitsLaws.{length-bits, number-lt, number-bits, bits-number}
+use Rattle.division.proofs.BytesLaws.{bits-mod, append-apart, length-bytes, bytes-append, bytes-inj, are-bytes-take, are-bytes-drop}
+use Rattle.division.proofs.RegisterLaws.{checksum-lt}
+use Rattle.checksum.specs.declared.Channel.{Channel}
+use Rattle.checksum.specs.Channel.{startOf}
+use Rattle.checksum.specs.Checksums.{headerPolynomial, headerStart, framePolynomial, headerBits, frameDivision, frameChecksum}
+use Rattle.frame.specs.declared.header.Header.{Header}
+use Rattle.frame.specs.Layout.{wholeHeader, frameBits, headerChecksumOf, frameChecksumOf, Frame}
+use Rattle.frame.specs.Read.{flag, field, headerIn, headerRead, payloadRead, trailerRead}
+use Rattle.frame.proofs.HeaderLaws.{header-front, whole-fields}
+
+-- ---- a header and its 40 bits
+
+pub length-whole : (h : Header) → length (wholeHeader h) ≡ 40
+length-whole h =
+    rw (
+      length-append (bits 11 (h .id .0)) (bits 7 (h .words) ++ (bits 11 (h .checksum) ++ bits 6 (h .cycle .0))),
+      length-append (bits 7 (h .words)) (bits 11 (h .checksum) ++ bits 6 (h .cycle .0)),
+      length-append (bits 11 (h .checksum)) (bits 6 (h .cycle .0)),
+      length-bits 11 (h .id .0),
+      length-bits 7 (h .words),
+      length-bits 11 (h .checksum),
+      length-bits 6 (h .cycle .0),
+    )
+
+-- a header in range is what its bits say
+pub whole-header : (h : Header) → h .id .0 ≤ 2047 → h .words ≤ 127 → h .checksum ≤ 2047 → h .cycle .0 ≤ 63 → headerIn (wholeHeader h) ≡ h
+whole-header h id words checksum cycle =
+    let e1 : h .id .0 % 2 ^ 11 ≡ h .id .0 = mod-eq-of-lt (omega arith) in
+    let e2 : h .words % 2 ^ 7 ≡ h .words = mod-eq-of-lt (omega arith) in
+    let e3 : h .checksum % 2 ^ 11 ≡ h .checksum = mod-eq-of-lt (omega arith) in
+    let e4 : h .cycle .0 % 2 ^ 6 ≡ h .cycle .0 = mod-eq-of-lt (omega arith) in
+    whole-fields h ∙ rw (e1, e2, e3, e4)
+
+-- the bits of a field, with all that stands behind it
+with-rest : (width : ℕ) (x rest : List Bool) → width ≤ length x → rest ≡ drop width x → bits width (number (take width x)) ++ rest ≡ x
+with-rest width x rest h e =
+    ap₂ _++_ (bits-number width (take width x) (length-take-le width x h)) e ∙ take-append-drop width x
+
+-- 40 bits are those of the header that they say
+pub header-whole : (x : List Bool) → length x ≡ 40 → wholeHeader (headerIn x) ≡ x
+unfolding headerIn
+header-whole [] e = absurd (omega arith)
+header-whole (a ∷ []) e = absurd (omega arith)
+header-whole (a ∷ b ∷ []) e = absurd (omega arith)
+header-whole (a ∷ b ∷ c ∷ []) e = absurd (omega arith)
+header-whole (a ∷ b ∷ c ∷ d ∷ []) e = absurd (omega arith)
+header-whole (a ∷ b ∷ c ∷ d ∷ f ∷ x) e =
+    let all : take 6 (drop 29 x) ≡ drop 29 x = take-all 6 (drop 29 x) (omega (arith, length-drop 29 x)) in
+    let cycle : bits 6 (number (take 6 (drop 29 x))) ≡ drop 29 x =
+    ap (λ (y : List Bool). bits 6 (number y)) all ∙ bits-number 6 (drop 29 x) (omega (arith, length-drop 29 x)) in
+    ap (λ (y : List Bool). a ∷ b ∷ c ∷ d ∷ f ∷ y)
+    (with-rest 11 x _ (omega arith)
+    (with-rest 7 (drop 11 x) _ (omega (arith, length-drop 11 x))
+    (with-rest 11 (drop 18 x) _ (omega (arith, length-drop 18 x)) (cycle ∙ sym (drop-drop 11 18 x)) ∙ sym (drop-drop 7 11 x))))
+
+-- ---- bytes in three parts
+
+pub length-five : (bytes : List ℕ) → 8 ≤ length bytes → length (bytesBits (take 5 bytes)) ≡ 40
+length-five bytes h =
+    let n : length (take 5 bytes) ≡ 5 = length-take-le 5 bytes (omega arith) in
+    length-bytes (take 5 bytes) ∙ ap (λ (k : ℕ). 8 * k) n
+
+pub length-trailer : (bytes : List ℕ) → 8 ≤ length bytes → length (bytesBits (drop (length bytes - 3) bytes)) ≡ 24
+length-trailer bytes h =
+    let n : length (drop (length bytes - 3) bytes) ≡ 3 = length-drop (length bytes - 3) bytes ∙ omega arith in
+    length-bytes (drop (length bytes - 3) bytes) ∙ ap (λ (k : ℕ). 8 * k) n
+
+pub three-parts : (bytes : List ℕ) → 8 ≤ length bytes
+    → bytesBits bytes ≡ bytesBits (take 5 bytes) ++ (bytesBits (payloadRead bytes) ++ bytesBits (drop (length bytes - 3) bytes))
+three-parts bytes h =
+    let e : 5 + (length bytes - 8) ≡ length bytes - 3 = omega arith in
+    let rest = drop 5 bytes in
+    ap bytesBits (sym (take-append-drop 5 bytes)) ∙ bytes-append (take 5 bytes) rest
+    ∙ ap (λ (x : List Bool). bytesBits (take 5 bytes) ++ x)
+    (ap bytesBits (sym (take-append-drop (length bytes - 8) rest)) ∙ bytes-append (payloadRead bytes) (drop (length bytes - 8) rest)
+    ∙ ap (λ (l : List ℕ). bytesBits (payloadRead bytes) ++ bytesBits l) (drop-drop (length bytes - 8) 5 bytes ∙ ap (λ (k : ℕ). drop k bytes) e))
+
+pub two-parts : (bytes : List ℕ) → 8 ≤ length bytes
+    → bytesBits (take (length bytes - 3) bytes) ≡ bytesBits (take 5 bytes) ++ bytesBits (payloadRead bytes)
+two-parts bytes h =
+    let e : length bytes - 3 ≡ 5 + (length bytes - 8) = omega arith in
+    ap bytesBits (ap (λ (k : ℕ). take k bytes) e ∙ take-add 5 (length bytes - 8) bytes) ∙ bytes-append (take 5 bytes) (payloadRead bytes)
+
+pub length-payload : (bytes : List ℕ) → 8 ≤ length bytes → length (payloadRead bytes) ≡ length bytes - 8
+length-payload bytes h = length-take-le (length bytes - 8) (drop 5 bytes) (omega (arith, length-drop 5 bytes))
+
+pub header-checksum-small : (h : Header) → headerChecksumOf h ≤ 2047
+header-checksum-small h =
+    let small : headerChecksumOf h < 2 ^ 11 =
+    checksum-lt 11 headerPolynomial headerStart (headerBits (h .sync) (h .startup) (h .id .0) (h .words)) in
+    omega arith
+
+-- a field is below the power that its width gives
+pub field-small : (place width : ℕ) (x : List Bool) → field place width x < 2 ^ width
+field-small place width x =
+    let y = take width (drop place x) in
+    let short : length y ≤ width = rw (length-take width (drop place x)) (omega arith) in
+    lt-of-lt-of-le (number-lt y) (pow-le-pow-right {n = 2} (omega arith) short)
+
+-- the header that bytes begin with is that of their first five
+pub header-of-five : (bytes : List ℕ) → 8 ≤ length bytes → headerRead bytes ≡ headerIn (bytesBits (take 5 bytes))
+header-of-five bytes h =
+    let five = bytesBits (take 5 bytes) in
+    ap headerIn (three-parts bytes h)
+    ∙ header-front five (bytesBits (payloadRead bytes) ++ bytesBits (drop (length bytes - 3) bytes)) (length-five bytes h)
+
+-- "A frame has 8 + 2 x words bytes"
+pub frame-size : (channel : Channel) (bytes : List ℕ) (header : Header) (payload : List ℕ) → Frame channel bytes header payload
+    → length bytes ≡ 8 + 2 * header .words
+frame-size channel bytes header payload f =
+    let t = bits 24 (frameChecksumOf channel header payload) in
+    let tail : length (bytesBits payload ++ t) ≡ 8 * length payload + 24 =
+    length-append (bytesBits payload) t ∙ ap₂ _+_ (length-bytes payload) (length-bits 24 (frameChecksumOf channel header payload)) in
+    let whole : length (wholeHeader header ++ (bytesBits payload ++ t)) ≡ 40 + (8 * length payload + 24) =
+    length-append (wholeHeader header) (bytesBits payload ++ t) ∙ ap₂ _+_ (length-whole header) tail in
+    omega (arith, length-bytes bytes, ap length (f .layout), whole, f .payloadLength)

@@ -1,0 +1,6 @@
+pub mod FrameLaws
+pub mod Answers
+pub mod Reading
+pub mod Exact
+pub mod Damage
+pub mod Witnesses

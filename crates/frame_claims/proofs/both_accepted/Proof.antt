@@ -1,0 +1,31 @@
+-- `both_accepted`: two strings that are both accepted are far apart.
+use mathlib.Core.Path.{_≡_, sym}
+use mathlib.Core.Bool.{true, false, false≢true}
+use borrow.Author.Tests.{not-false}
+use denote.Ref.{now}
+use Rattle.frame_claims.proofs.Witnesses.{both-apart}
+use borrow.Author.Needs.{needs}
+use Rattle.frame_claims.proofs.both_accepted.Statement.{statement}
+use Rattle.frame_claims.proofs.both_accepted.Tie as tie
+use Rattle.frame_claims.proofs.both_accepted.Reads as reads
+use Rattle.frame_claims.proofs.both_accepted.Lts as lts
+use Rattle.frame_claims.proofs.accepts.Reads as accepts-reads
+
+accepts-requires : tie.Need-accepts-requires
+accepts-requires c κs = search needs
+
+returns : tie.Need-returns
+returns c e long differ = absurd (false≢true e)
+
+accepts-requires-2 : tie.Need-accepts-requires-2
+accepts-requires-2 c κs = search needs
+
+returns-2 : tie.Need-returns-2
+returns-2 c =
+    let first = c .before .before in
+    let a = first .before .before .before .args in
+    both-apart (a .channel) (now (a .x)) (now (a .y)) (first .accepts .result) (c .accepts2 .result) (first .accepts .ensures)
+    (not-false (first .accepts .result) (c .before .if1 .left)) (c .accepts2 .ensures)
+
+pub both-accepted-spec : {M : Type 1} → statement M
+both-accepted-spec = tie.close (tie.spec accepts-requires returns accepts-requires-2 returns-2)

@@ -1,0 +1,29 @@
+-- `read_number` is told by 01's order.
+use mathlib.Core.Path.{sym, subst}
+use denote.Ref.{now}
+use Rattle.refusal.specs.Refusal.{InOrder}
+use Rattle.frame.specs.Read.{refusals}
+use Rattle.frame_claims.proofs.Answers.{read-in-order}
+use borrow.Author.Needs.{needs}
+use Rattle.frame_claims.proofs.read_number.Statement.{statement}
+use Rattle.frame_claims.proofs.read_number.Tie as tie
+use Rattle.frame_claims.proofs.read_number.Reads as reads
+use Rattle.frame_claims.proofs.read_number.Lts as lts
+use Rattle.frame.proofs.reader.Reading.number.Reads as number-reads
+use Rattle.frame.proofs.read.Reads as read-reads
+
+read-requires : tie.Need-read-requires
+read-requires c κs = search needs
+
+number-requires : tie.Need-number-requires
+number-requires c κs = search needs
+
+returns : tie.Need-returns
+returns c =
+    let a = c .before .before .before .args in
+    let r = c .before .read in
+    subst (InOrder (refusals (a .channel) (now (a .bytes)))) (sym (c .number .ensures))
+    (read-in-order (a .channel) (now (a .bytes)) (r .result) (r .ensures))
+
+pub read-number-spec : {M : Type 1} → statement M
+read-number-spec = tie.close (tie.spec read-requires number-requires returns)

@@ -1,0 +1,37 @@
+-- `write_number` is told by 01's order, and with a refusal the output is as it was.
+use mathlib.Core.Path.{sym, _∙_, subst}
+use denote.Ref.{now}
+use Rattle.refusal.specs.Refusal.{InOrder}
+use Rattle.frame.specs.Write.{refusals}
+use Rattle.frame_claims.proofs.Answers.{write-in-order, refused-unchanged}
+use borrow.Author.Needs.{needs}
+use Rattle.frame_claims.proofs.write_number.Statement.{statement}
+use Rattle.frame_claims.proofs.write_number.Tie as tie
+use Rattle.frame_claims.proofs.write_number.Reads as reads
+use Rattle.frame_claims.proofs.write_number.Lts as lts
+use Rattle.frame.proofs.writer.Writing.number.Reads as number-reads
+use Rattle.frame.proofs.write.Reads as write-reads
+
+write-requires : tie.Need-write-requires
+write-requires c κs = search needs
+
+number-requires : tie.Need-number-requires
+number-requires c κs = search needs
+
+same-length : tie.Need-same-length
+same-length c = search needs
+
+returns : tie.Need-returns
+returns c =
+    let w = c .before .before .before in
+    let a = w .before .before .before .before .args in
+    let payload = now (a .payload) in
+    let output = now (a .output) in
+    let after = w .write .last .1 .1 .1 .0 in (
+      subst (InOrder (refusals (a .channel) (a .fields) payload output)) (sym (c .number .ensures))
+          (write-in-order (a .channel) (a .fields) payload output after (w .write .result) (w .write .ensures)),
+      λ refused. refused-unchanged (a .channel) (a .fields) payload output after (w .write .result) (w .write .ensures) (λ e. refused (c .number .ensures ∙ e)),
+    )
+
+pub write-number-spec : {M : Type 1} → statement M
+write-number-spec = tie.close (tie.spec write-requires number-requires same-length returns)

@@ -1,0 +1,54 @@
+-- Claims about the answers of `read`, `payload` and `write`, of any that their statements allow. The customer's first condition asks
+-- that each takes any number, fields and bytes and answers, or gives a refusal number of 01 in 01's order, and that a refusal changes
+-- nothing; 01 asks that a statement determines the answer and all that is lent.
+use Prim.Native.Nat.{ℕ}
+use mathlib.Core.Path.{_≡_}
+use mathlib.Core.List.{List, []}
+use Rattle.refusal.specs.Refusal.{InOrder}
+use Rattle.frame.specs.declared.header.Fields.{Fields}
+use Rattle.frame.specs.declared.reader.Reading.{Reading}
+use Rattle.frame.specs.declared.writer.Writing.{Writing}
+use Rattle.frame.specs.Read as read
+use Rattle.frame.specs.Read.{ReadSays, PayloadSays}
+use Rattle.frame.specs.Write as write
+use Rattle.frame.specs.Write.{WriteSays}
+
+-- ---- any two results that a statement allows are equal
+
+abbrev pub ReadOne : Type 0
+ReadOne = (channel : ℕ) (bytes : List ℕ) (r s : Reading) → ReadSays channel bytes r → ReadSays channel bytes s → r ≡ s
+
+abbrev pub PayloadOne : Type 0
+PayloadOne = (channel : ℕ) (bytes p q : List ℕ) → PayloadSays channel bytes p → PayloadSays channel bytes q → p ≡ q
+
+abbrev pub WriteOne : Type 0
+WriteOne =
+    (channel : ℕ) (fields : Fields) (payload before after after′ : List ℕ) (r s : Writing)
+    → WriteSays channel fields payload before after r → WriteSays channel fields payload before after′ s
+    → (r ≡ s) × (after ≡ after′)
+
+-- ---- the number is the first of 01's order whose condition holds
+
+abbrev pub ReadInOrder : Type 0
+ReadInOrder =
+    (channel : ℕ) (bytes : List ℕ) (r : Reading) → ReadSays channel bytes r
+    → InOrder (read.refusals channel bytes) (read.told r .number)
+
+abbrev pub WriteInOrder : Type 0
+WriteInOrder =
+    (channel : ℕ) (fields : Fields) (payload before after : List ℕ) (r : Writing)
+    → WriteSays channel fields payload before after r
+    → InOrder (write.refusals channel fields payload before) (write.told r .number)
+
+-- ---- a refusal changes nothing that is lent, and no bytes come back
+
+abbrev pub RefusedUnchanged : Type 0
+RefusedUnchanged =
+    (channel : ℕ) (fields : Fields) (payload before after : List ℕ) (r : Writing)
+    → WriteSays channel fields payload before after r → (write.told r .number ≡ 0 → ⊥)
+    → after ≡ before
+
+abbrev pub RefusedEmpty : Type 0
+RefusedEmpty =
+    (channel : ℕ) (bytes payload : List ℕ) (r : Reading) → ReadSays channel bytes r → PayloadSays channel bytes payload
+    → (read.told r .number ≡ 0 → ⊥) → payload ≡ []

@@ -1,0 +1,111 @@
+-- Claims about what is accepted and what is written. The customer's second condition: a byte string is accepted exactly when 01 calls it
+-- a frame, and writing gives exactly the bytes that read back as the same frame.
+use Prim.Native.Nat.{ℕ, _≤_}
+use mathlib.Core.Path.{_≡_}
+use mathlib.Core.Bool.{Bool, true, false}
+use mathlib.Core.List.{List}
+use mathlib.Core.Logic.{_↔_}
+use lib.ListN.{length, take, drop}
+use Rattle.division.specs.Bits.{AreBytes}
+use Rattle.checksum.specs.declared.Channel.{Channel}
+use Rattle.checksum.specs.declared.Named.the-variants.{Is}
+use Rattle.checksum.specs.Channel.{namedBy}
+use Rattle.frame.specs.declared.header.Header.{Header}
+use Rattle.frame.specs.declared.header.Fields.{Fields}
+use Rattle.frame.specs.declared.reader.Reading.{Reading}
+use Rattle.frame.specs.declared.reader.Reading.the-variants.{Accepted}
+use Rattle.frame.specs.declared.writer.Writing.{Writing}
+use Rattle.frame.specs.declared.writer.Writing.the-variants.{Written, ReservedSet}
+use Rattle.frame.specs.Layout.{Frame}
+use Rattle.frame.specs.Read.{ReadSays, PayloadSays}
+use Rattle.frame.specs.Write.{over, refusal, WriteSays}
+
+-- These bytes are a frame on the channel that this number names, with this header and this payload.
+pub record FrameOn (channel : ℕ) (bytes : List ℕ) (header : Header) (payload : List ℕ) : Type 0 where
+  pub on : Channel
+  pub named : namedBy channel ≡ Is on
+  pub frame : Frame on bytes header payload
+
+-- The seven fields of a header that are free when it is written.
+abbrev pub fieldsOf : Header → Fields
+fieldsOf h =
+    record {
+      reserved = h .reserved;
+      preamble = h .preamble;
+      «null_frame_bit» = h .«null_frame_bit»;
+      sync = h .sync;
+      startup = h .startup;
+      id = h .id;
+      cycle = h .cycle;
+    }
+
+-- `read` accepts with a header, and `payload` gives a part, exactly when the bytes are a frame with them.
+abbrev pub ReadExactly : Type 0
+ReadExactly =
+    (channel : ℕ) (bytes : List ℕ) (r : Reading) (part : List ℕ)
+    → AreBytes bytes → ReadSays channel bytes r → PayloadSays channel bytes part
+    → (header : Header) (payload : List ℕ)
+    → (r ≡ Accepted header) × (part ≡ payload) ↔ FrameOn channel bytes header payload
+
+-- What an accepted write leaves at the front of the output is a frame with these fields and this payload; behind it all stays.
+abbrev pub WriteGivesFrame : Type 0
+WriteGivesFrame =
+    (channel : ℕ) (fields : Fields) (payload before after : List ℕ) (size : ℕ)
+    → AreBytes payload → WriteSays channel fields payload before after (Written size)
+    → (header : Header) × (fieldsOf header ≡ fields) × FrameOn channel (take size after) header payload × (drop size after ≡ drop size before)
+
+-- And no other bytes are one.
+abbrev pub WriteGivesOnly : Type 0
+WriteGivesOnly =
+    (channel : ℕ) (fields : Fields) (payload before after : List ℕ) (size : ℕ)
+    → AreBytes payload → WriteSays channel fields payload before after (Written size)
+    → (bytes : List ℕ) (header : Header) → fieldsOf header ≡ fields → FrameOn channel bytes header payload
+    → bytes ≡ take size after
+
+-- "Reading then writing gives the same bytes": where the reserved bit is 0 and there is room.
+abbrev pub ReadThenWrite : Type 0
+ReadThenWrite =
+    (channel : ℕ) (bytes : List ℕ) (header : Header) (part : List ℕ)
+    → AreBytes bytes → ReadSays channel bytes (Accepted header) → PayloadSays channel bytes part
+    → (before after : List ℕ) (w : Writing) → WriteSays channel (fieldsOf header) part before after w
+    → header .reserved ≡ false → length bytes ≤ length before
+    → (w ≡ Written (length bytes)) × (after ≡ over bytes before)
+
+-- "unless the reserved bit is 1 (refusal 12)".
+abbrev pub ReservedNotWritten : Type 0
+ReservedNotWritten =
+    (channel : ℕ) (bytes : List ℕ) (header : Header) (part : List ℕ)
+    → AreBytes bytes → ReadSays channel bytes (Accepted header) → PayloadSays channel bytes part
+    → (before after : List ℕ) (w : Writing) → WriteSays channel (fieldsOf header) part before after w
+    → header .reserved ≡ true
+    → (w ≡ ReservedSet) × (after ≡ before)
+
+-- "Writing then reading gives the same fields and payload."
+abbrev pub WriteThenRead : Type 0
+WriteThenRead =
+    (channel : ℕ) (fields : Fields) (payload before after : List ℕ) (size : ℕ)
+    → AreBytes payload → WriteSays channel fields payload before after (Written size)
+    → (r : Reading) (part : List ℕ) → ReadSays channel (take size after) r → PayloadSays channel (take size after) part
+    → (header : Header) × (r ≡ Accepted header) × (fieldsOf header ≡ fields) × (part ≡ payload)
+
+-- ---- what the witnesses show
+
+-- `accepts`: the answer is yes exactly when the bytes are a frame.
+abbrev pub AcceptsFrames : ℕ → List ℕ → Bool → Type 0
+AcceptsFrames channel bytes r = (r ≡ true) ↔ (header : Header) × (payload : List ℕ) × FrameOn channel bytes header payload
+
+-- `rewritten`: a frame whose reserved bit is 0 comes back as it was, where there is room; where it does not, nothing is touched.
+pub record Rewritten (channel : ℕ) (bytes before after : List ℕ) (r : Bool) : Type 0 where
+  pub frames : (header : Header) (payload : List ℕ) → FrameOn channel bytes header payload
+      → header .reserved ≡ false → length bytes ≤ length before
+      → (r ≡ true) × (after ≡ over bytes before)
+  pub others : r ≡ false → after ≡ before
+
+-- `reread`: what was written is read as a header with the same fields.
+abbrev pub Reread : ℕ → Fields → List ℕ → List ℕ → Reading → Type 0
+Reread channel fields payload before r =
+    refusal channel fields payload before ≡ 0 → (header : Header) × (r ≡ Accepted header) × (fieldsOf header ≡ fields)
+
+-- `reread_payload`: and its payload is the one that was given.
+abbrev pub RereadPayload : ℕ → Fields → List ℕ → List ℕ → List ℕ → Type 0
+RereadPayload channel fields payload before part = refusal channel fields payload before ≡ 0 → part ≡ payload

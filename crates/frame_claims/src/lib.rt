@@ -1,0 +1,104 @@
+// What follows from the frame's rules. `specs/` states the claims, `proofs/` proves them, and this file has their witnesses:
+// short functions over the entries, proved from their contracts alone.
+ghost use mathlib.Core.Path.{_≡_};
+ghost use mathlib.Core.Bool.{false};
+ghost use Rattle.refusal.specs.Refusal.{InOrder};
+ghost use Rattle.frame.specs.Read.{refusals as read·refusals};
+ghost use Rattle.frame.specs.Write.{refusals as write·refusals};
+ghost use Rattle.frame_claims.specs.Damage.{ApartIfAccepted};
+ghost use Rattle.frame_claims.specs.Exact.{fieldsOf, AcceptsFrames, Rewritten, Reread, RereadPayload};
+use frame::Fields;
+use frame::Header;
+use frame::Reading;
+
+// The number that reading gives: the first of 01's order whose condition holds.
+pub fn read_number(channel: u8, bytes: &[u8]) -> u8
+    ensures { λ r. ⌜ InOrder (read·refusals channel (now (bytes .entry))) r ⌝ }
+{
+    frame::read(channel, bytes).number()
+}
+
+// The number that writing gives: the first of 01's order whose condition holds. With any but 0 the output is as it was.
+pub fn write_number(channel: u8, fields: Fields, payload: &[u8], output: &mut [u8]) -> u8
+    ensures { λ r. ⌜ InOrder (write·refusals channel fields (now (payload .entry)) (now (output .entry))) r ⌝ }
+    ensures { λ r. ⌜ ((r ≡ 0 → ⊥) → now (output .exit) ≡ now (output .entry)) ⌝ }
+{
+    frame::write(channel, fields, payload, output).number()
+}
+
+// Whether reading accepts: exactly where the bytes are a frame.
+pub fn accepts(channel: u8, bytes: &[u8]) -> bool
+    ensures { λ r. ⌜ AcceptsFrames channel (now (bytes .entry)) r ⌝ }
+{
+    frame::read(channel, bytes).number() == 0
+}
+
+// Whether these bytes are accepted on both channels. They never are.
+pub fn on_both(bytes: &[u8]) -> bool
+    ensures { λ r. ⌜ r ≡ false ⌝ }
+{
+    if !accepts(0, bytes) {
+        return false;
+    }
+    accepts(1, bytes)
+}
+
+// Whether both strings are accepted on one channel: then, if they are of equal length and different, they are far apart.
+pub fn both_accepted(channel: u8, x: &[u8], y: &[u8]) -> bool
+    ensures { λ r. ⌜ ApartIfAccepted (now (x .entry)) (now (y .entry)) r ⌝ }
+{
+    if !accepts(channel, x) {
+        return false;
+    }
+    accepts(channel, y)
+}
+
+fn fields_of(header: Header) -> Fields
+    ensures { λ r. ⌜ r ≡ fieldsOf header ⌝ }
+{
+    let id = header.id;
+    let cycle = header.cycle;
+    Fields {
+        reserved: header.reserved,
+        preamble: header.preamble,
+        null_frame_bit: header.null_frame_bit,
+        sync: header.sync,
+        startup: header.startup,
+        id,
+        cycle,
+    }
+}
+
+// Reads bytes and writes what was read: the same bytes, unless the reserved bit is 1 or there is no room. Whether it was written.
+pub fn rewritten(channel: u8, bytes: &[u8], output: &mut [u8]) -> bool
+    ensures { λ r. ⌜ Rewritten channel (now (bytes .entry)) (now (output .entry)) (now (output .exit)) r ⌝ }
+{
+    let reading = frame::read(channel, bytes);
+    if reading.number() != 0 {
+        return false;
+    }
+    let part = frame::payload(channel, bytes);
+    frame::write(channel, fields_of(reading.header()), part, output).number() == 0
+}
+
+// Writes a frame and reads it: the same fields.
+pub fn reread(channel: u8, fields: Fields, payload: &[u8], output: &mut [u8]) -> Reading
+    ensures { λ r. ⌜ Reread channel fields (now (payload .entry)) (now (output .entry)) r ⌝ }
+{
+    let size = frame::write(channel, fields, payload, output).length();
+    frame::read(channel, &output[0..size])
+}
+
+// Writes a frame and takes its payload: the same bytes.
+pub fn reread_payload<'a>(
+    channel: u8,
+    fields: Fields,
+    payload: &'a [u8],
+    output: &'a mut [u8],
+) -> &'a [u8]
+    ensures { λ r. ⌜ RereadPayload channel fields (now (payload .entry)) (now (output .entry)) (now r) ⌝ }
+{
+    let size = frame::write(channel, fields, payload, output).length();
+    let sent = &output[..];
+    frame::payload(channel, &sent[0..size])
+}
