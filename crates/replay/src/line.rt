@@ -1,0 +1,73 @@
+// A line of the output, built in a lent buffer and written in one piece. A function that puts something at a position
+// answers the position behind it.
+ghost use Prim.Native.Nat.{_≤_};
+use libc::STDOUT_FILENO;
+
+// Room for every line. The longest is that of a write with 600 bytes of output: 1,213 characters.
+pub const ROOM: usize = 1300;
+
+// Puts the bytes as they are.
+pub fn put(line: &mut [u8; ROOM], at: usize, bytes: &[u8]) -> usize {
+    let mut at = at;
+    let mut i = 0;
+    while i < bytes.len() {
+        at = put_byte(line, at, bytes[i]);
+        i += 1;
+    }
+    at
+}
+
+// Puts a space and the number.
+pub fn decimal(line: &mut [u8; ROOM], at: usize, number: u64) -> usize {
+    let mut digits = [0u8; 20];
+    let count = io::decimal(number, &mut digits);
+    let at = put_byte(line, at, b' ');
+    put(line, at, &digits[0..count])
+}
+
+// Puts a space and the bytes in hex, or `-` where there are none.
+pub fn hex(line: &mut [u8; ROOM], at: usize, bytes: &[u8]) -> usize {
+    let mut at = put_byte(line, at, b' ');
+    if bytes.len() == 0 {
+        return put_byte(line, at, b'-');
+    }
+    let mut i = 0;
+    while i < bytes.len() {
+        at = put_two_digits(line, at, bytes[i]);
+        i += 1;
+    }
+    at
+}
+
+// Puts the line feed and writes the line.
+pub fn end(line: &mut [u8; ROOM], at: usize) {
+    let end = put_byte(line, at, b'\n');
+    let whole = &line[..];
+    io::write_all(STDOUT_FILENO, &whole[0..end]);
+}
+
+fn put_two_digits(line: &mut [u8; ROOM], at: usize, byte: u8) -> usize {
+    let at = put_byte(line, at, digit(byte / 16));
+    put_byte(line, at, digit(byte))
+}
+
+// The hex digit of the low four bits of a byte.
+fn digit(byte: u8) -> u8 {
+    let low = byte % 16;
+    if low < 10 {
+        b'0' + low
+    } else {
+        b'a' - 10 + low
+    }
+}
+
+// Puts a byte where there is room for it. The bound in the contract is ROOM, and lets `end` write what stands before it.
+fn put_byte(line: &mut [u8; ROOM], at: usize, byte: u8) -> usize
+    ensures { λ r. ⌜ r ≤ 1300 ⌝ }
+{
+    if ROOM <= at {
+        return ROOM;
+    }
+    line[at] = byte;
+    at + 1
+}

@@ -1,0 +1,86 @@
+//! The values of 01 "Numbers to check against" that concern frames, and the published check values.
+
+use crate::channel::Channel;
+use crate::draft::Draft;
+use crate::frame::{LARGEST_FRAME, MOST_WORDS};
+use crate::plan::{Expected, Note, Plan};
+use crate::random::Random;
+use crate::refusal::Refusal;
+use crate::script::{Command, Write};
+
+pub fn add(plan: &mut Plan, random: &mut Random) {
+    add_check_values(plan);
+    add_header(plan);
+    for channel in Channel::BOTH {
+        add_sizes(plan, random, channel);
+    }
+}
+
+fn add_check_values(plan: &mut Plan) {
+    for (channel, value) in [(0, 0x7979BD), (1, 0x1F23B8)] {
+        let line = Expected::Line(format!("checksum 0 {value}"));
+        plan.add_noted(Command::checksum(channel, b"123456789"), line, Note::CheckValue);
+    }
+}
+
+fn add_header(plan: &mut Plan) {
+    const ON_A: [u8; 8] = [0x20, 0x01, 0x01, 0xA7, 0xC0, 0xD0, 0x5E, 0xEA];
+    const ON_B: [u8; 8] = [0x20, 0x01, 0x01, 0xA7, 0xC0, 0x3B, 0xD0, 0x8F];
+    for (channel, own, foreign) in [(0, ON_A, ON_B), (1, ON_B, ON_A)] {
+        let line = Expected::Line("read 0 0 0 1 0 0 1 0 1695 0 -".to_string());
+        plan.add_noted(Command::read(channel, &own), line, Note::HeaderOf01);
+        plan.add_noted(Command::read(channel, &foreign), Expected::Refused(Refusal::FrameChecksum), Note::HeaderOf01);
+        for spare in [0, 1, 5] {
+            add_written_header(plan, channel, &own, spare);
+        }
+    }
+}
+
+/// The bytes after the frame stay as they were lent.
+fn add_written_header(plan: &mut Plan, channel: u8, frame: &[u8], spare: usize) {
+    let write = Write { channel, flags: 0b00100, id: 1, cycle: 0, payload: vec![], room: 8 + spare };
+    let written: String = frame.iter().map(|byte| format!("{byte:02x}")).collect();
+    let line = Expected::Line(format!("write 0 8 {written}{}", "a5".repeat(spare)));
+    plan.add_noted(Command::Write(write), line, Note::HeaderOf01);
+}
+
+fn add_sizes(plan: &mut Plan, random: &mut Random, channel: Channel) {
+    let small = Draft::fair(random, channel, 0);
+    let large = Draft::fair(random, channel, MOST_WORDS);
+    for size in [0, 7] {
+        add_size(plan, channel, &small.bytes()[..size], Expected::Refused(Refusal::TooFewBytes));
+    }
+    for (draft, sizes) in [(&small, [9, 10]), (&large, [263, 264])] {
+        add_go_on(plan, channel, draft);
+        for size in sizes {
+            add_longer(plan, random, draft, size);
+        }
+    }
+}
+
+/// 01 says "go on" for this size: once accepted, and once refused later than by the size.
+fn add_go_on(plan: &mut Plan, channel: Channel, draft: &Draft) {
+    add_size(plan, channel, &draft.bytes(), Expected::Accepted);
+    let later = [
+        (Draft { header_checksum_change: 1, ..draft.clone() }, Refusal::HeaderChecksum),
+        (Draft { words: draft.words ^ 1, ..draft.clone() }, Refusal::WordsAgainstSize),
+        (Draft { id: 0, ..draft.clone() }, Refusal::IdRead),
+        (Draft { frame_checksum_change: 1, ..draft.clone() }, Refusal::FrameChecksum),
+    ];
+    for (wrong, refusal) in later {
+        add_size(plan, channel, &wrong.bytes(), Expected::Refused(refusal));
+    }
+}
+
+/// A good frame with bytes behind it.
+fn add_longer(plan: &mut Plan, random: &mut Random, draft: &Draft, size: usize) {
+    let mut bytes = draft.bytes();
+    bytes.extend(random.bytes(size - bytes.len()));
+    let misfit = size % 2 == 1 || size > LARGEST_FRAME;
+    let refusal = if misfit { Refusal::Size } else { Refusal::WordsAgainstSize };
+    add_size(plan, draft.channel, &bytes, Expected::Refused(refusal));
+}
+
+fn add_size(plan: &mut Plan, channel: Channel, bytes: &[u8], expected: Expected) {
+    plan.add_noted(Command::read(channel.number(), bytes), expected, Note::SizeOf01(bytes.len()));
+}

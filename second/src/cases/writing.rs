@@ -1,0 +1,124 @@
+//! Writes: every value of every field, sizes and rooms, every refusal and all their coincidences.
+
+use crate::channel::Channel;
+use crate::faults::{fair_write, faulty_write, selections};
+use crate::frame::{HIGHEST_CYCLE, HIGHEST_ID, LARGEST_PAYLOAD, SMALLEST_FRAME};
+use crate::plan::{Expected, Plan};
+use crate::random::Random;
+use crate::refusal::{Refusal, WRITE_ORDER};
+use crate::script::{Command, Write, LIMIT};
+
+const ROUNDS_OF_SELECTIONS: usize = 5;
+
+pub fn add(plan: &mut Plan, random: &mut Random) {
+    add_channels(plan, random);
+    for channel in Channel::BOTH {
+        add_payload_sizes(plan, random, channel);
+        add_wrong_payload_sizes(plan, random, channel);
+        add_ids(plan, random, channel);
+        add_cycles(plan, random, channel);
+        add_flags(plan, random, channel);
+        add_rooms(plan, random, channel);
+    }
+    for _ in 0..ROUNDS_OF_SELECTIONS {
+        add_selections(plan, random);
+    }
+}
+
+/// A taken write with a payload of this size and a room that just holds the frame.
+fn sized_write(random: &mut Random, channel: Channel, size: usize) -> Write {
+    let fair = fair_write(random, channel, 0);
+    Write { payload: random.bytes(size), room: SMALLEST_FRAME + size, ..fair }
+}
+
+fn accepted_if(right: bool, refusal: Refusal) -> Expected {
+    if right {
+        Expected::Accepted
+    } else {
+        Expected::Refused(refusal)
+    }
+}
+
+fn add_channels(plan: &mut Plan, random: &mut Random) {
+    for channel in 2..=255 {
+        let write = Write { channel, ..sized_write(random, Channel::A, 2) };
+        plan.add(Command::Write(write), Expected::Refused(Refusal::Channel));
+    }
+}
+
+fn add_payload_sizes(plan: &mut Plan, random: &mut Random, channel: Channel) {
+    for size in (0..=LARGEST_PAYLOAD).step_by(2) {
+        let exact = sized_write(random, channel, size);
+        let spare = if size % 4 == 0 { 0 } else { random.between(1, 20) };
+        let write = Write { room: exact.room + spare, ..exact };
+        plan.add(Command::Write(write), Expected::Accepted);
+    }
+}
+
+fn add_wrong_payload_sizes(plan: &mut Plan, random: &mut Random, channel: Channel) {
+    let odd = (1..LARGEST_PAYLOAD).step_by(2);
+    for size in odd.chain([255, 256, 257, 258, 510, 511, 512, 598, 599, LIMIT]) {
+        // A room of any size leaves refusal 10 the first.
+        let room = random.pick(&[0, 8, 30]);
+        let write = Write { room, ..sized_write(random, channel, size) };
+        plan.add(Command::Write(write), Expected::Refused(Refusal::PayloadToWrite));
+    }
+    let write = Write { room: LIMIT, ..sized_write(random, channel, LARGEST_PAYLOAD + 2) };
+    plan.add(Command::Write(write), Expected::Refused(Refusal::PayloadToWrite));
+}
+
+fn add_ids(plan: &mut Plan, random: &mut Random, channel: Channel) {
+    let powers = (0..16).map(|place| 1 << place);
+    let ends = [0, 3, 2046, 2047, 2049, 4095, 4097, 32767, 65534, 65535];
+    for id in powers.chain(ends) {
+        let write = Write { id, ..sized_write(random, channel, 4) };
+        let right = (1..=HIGHEST_ID).contains(&id);
+        plan.add(Command::Write(write), accepted_if(right, Refusal::IdGiven));
+    }
+}
+
+fn add_cycles(plan: &mut Plan, random: &mut Random, channel: Channel) {
+    for cycle in 0..=255 {
+        let write = Write { cycle, ..sized_write(random, channel, 0) };
+        plan.add(Command::Write(write), accepted_if(cycle <= HIGHEST_CYCLE, Refusal::Cycle));
+    }
+}
+
+/// All 256 flag bytes; the three unnamed bits change nothing.
+fn add_flags(plan: &mut Plan, random: &mut Random, channel: Channel) {
+    for flags in 0..=255 {
+        let write = Write { flags, ..sized_write(random, channel, 2) };
+        plan.add(Command::Write(write), by_flags(flags));
+    }
+}
+
+fn by_flags(flags: u8) -> Expected {
+    const RESERVED: u8 = 1;
+    const SYNC: u8 = 8;
+    const STARTUP: u8 = 16;
+    if flags & STARTUP != 0 && flags & SYNC == 0 {
+        return Expected::Refused(Refusal::StartupWithoutSync);
+    }
+    accepted_if(flags & RESERVED == 0, Refusal::ReservedToWrite)
+}
+
+fn add_rooms(plan: &mut Plan, random: &mut Random, channel: Channel) {
+    add_rooms_for(plan, random, channel, 0, &(0..=20).collect::<Vec<usize>>());
+    add_rooms_for(plan, random, channel, 4, &(0..=40).collect::<Vec<usize>>());
+    add_rooms_for(plan, random, channel, LARGEST_PAYLOAD, &[0, 1, 8, 254, 260, 261, 262, 263, 264, 599, LIMIT]);
+}
+
+fn add_rooms_for(plan: &mut Plan, random: &mut Random, channel: Channel, size: usize, rooms: &[usize]) {
+    for room in rooms {
+        let exact = sized_write(random, channel, size);
+        let expected = accepted_if(*room >= exact.room, Refusal::Output);
+        plan.add(Command::Write(Write { room: *room, ..exact }), expected);
+    }
+}
+
+/// All causes alone and together; the first in 01's order of a write is the answer.
+fn add_selections(plan: &mut Plan, random: &mut Random) {
+    for faults in selections(&WRITE_ORDER) {
+        plan.add_faulty(faulty_write(random, &faults), &faults);
+    }
+}

@@ -1,0 +1,176 @@
+//! Commands in which the asked-for refusals have their cause, and no earlier one has.
+
+use crate::channel::Channel;
+use crate::draft::{fair_cycle, fair_id, fair_indicators, fair_words, foreign_channel, Draft};
+use crate::frame::{Indicators, HIGHEST_CYCLE, HIGHEST_ID, LARGEST_PAYLOAD, MOST_WORDS, SMALLEST_FRAME};
+use crate::random::Random;
+use crate::refusal::Refusal;
+use crate::script::{Command, Write, LIMIT};
+
+/// Every selection from an order, the empty one included; each keeps the order.
+pub fn selections(order: &[Refusal]) -> Vec<Vec<Refusal>> {
+    (0..1usize << order.len()).map(|marks| selection(order, marks)).collect()
+}
+
+fn selection(order: &[Refusal], marks: usize) -> Vec<Refusal> {
+    let marked = order.iter().enumerate().filter(|(place, _)| marks >> place & 1 == 1);
+    marked.map(|(_, refusal)| *refusal).collect()
+}
+
+/// A selection with few members as a rule.
+pub fn some_faults(random: &mut Random, order: &[Refusal]) -> Vec<Refusal> {
+    order.iter().copied().filter(|_| random.one_in(6)).collect()
+}
+
+/// A read in which each of the named refusals has a cause.
+pub fn faulty_read(random: &mut Random, faults: &[Refusal]) -> Command {
+    let channel = random.pick(&Channel::BOTH);
+    let draft = faulty_draft(random, channel, faults);
+    let mut bytes = draft.bytes();
+    if faults.contains(&Refusal::TooFewBytes) {
+        // An odd size below 8 has the causes of both 2 and 3.
+        bytes.truncate(2 * random.below(4) + usize::from(faults.contains(&Refusal::Size)));
+    }
+    Command::read(channel_number(random, channel, faults), &bytes)
+}
+
+fn faulty_draft(random: &mut Random, channel: Channel, faults: &[Refusal]) -> Draft {
+    let words = fair_words(random);
+    let mut draft = Draft::fair(random, channel, words);
+    draft.indicators = with_startup_fault(draft.indicators, faults);
+    if faults.contains(&Refusal::Size) {
+        draft.payload = misfit_payload(random);
+    }
+    if faults.contains(&Refusal::WordsAgainstSize) {
+        draft.words = other_words(random, words);
+    }
+    if faults.contains(&Refusal::IdRead) {
+        draft.id = 0;
+    }
+    if faults.contains(&Refusal::HeaderChecksum) {
+        draft.header_checksum_change = random.between(1, 0x7FF) as u16;
+    }
+    if faults.contains(&Refusal::FrameChecksum) {
+        draft.frame_checksum_change = random.between(1, 0xFF_FFFF) as u32;
+    }
+    draft
+}
+
+/// A payload that makes the frame's size odd, or longer than any frame.
+fn misfit_payload(random: &mut Random) -> Vec<u8> {
+    let size = match random.below(10) {
+        0 => LARGEST_PAYLOAD + 1,
+        1 => LARGEST_PAYLOAD + 2,
+        2 => random.between(LARGEST_PAYLOAD + 1, LIMIT - SMALLEST_FRAME),
+        _ => 2 * random.below(8) + 1,
+    };
+    random.bytes(size)
+}
+
+fn other_words(random: &mut Random, words: u8) -> u8 {
+    if words > 0 && random.one_in(3) {
+        return words - 1;
+    }
+    if words < MOST_WORDS && random.one_in(3) {
+        return words + 1;
+    }
+    (words + random.between(1, 127) as u8) % 128
+}
+
+fn with_startup_fault(indicators: Indicators, faults: &[Refusal]) -> Indicators {
+    if !faults.contains(&Refusal::StartupWithoutSync) {
+        return indicators;
+    }
+    Indicators { sync: false, startup: true, ..indicators }
+}
+
+fn channel_number(random: &mut Random, channel: Channel, faults: &[Refusal]) -> u8 {
+    if faults.contains(&Refusal::Channel) {
+        return foreign_channel(random);
+    }
+    channel.number()
+}
+
+/// A write in which each of the named refusals has a cause.
+pub fn faulty_write(random: &mut Random, faults: &[Refusal]) -> Command {
+    let channel = random.pick(&Channel::BOTH);
+    let words = fair_words(random);
+    let fair = fair_write(random, channel, words);
+    let payload = faulty_payload(random, fair.payload, faults);
+    let write = Write {
+        channel: channel_number(random, channel, faults),
+        flags: faulty_flags(fair.flags, faults),
+        id: if faults.contains(&Refusal::IdGiven) { wrong_id(random) } else { fair.id },
+        cycle: if faults.contains(&Refusal::Cycle) { wrong_cycle(random) } else { fair.cycle },
+        room: room_for(random, SMALLEST_FRAME + payload.len(), faults),
+        payload,
+    };
+    Command::Write(write)
+}
+
+/// A write that is taken, with its room exact; the unnamed flag bits are at random.
+pub fn fair_write(random: &mut Random, channel: Channel, words: u8) -> Write {
+    let payload = random.bytes(2 * usize::from(words));
+    let indicators = Indicators { reserved: false, ..fair_indicators(random) };
+    Write {
+        channel: channel.number(),
+        flags: indicators.flags() | (random.below(8) << 5) as u8,
+        id: fair_id(random),
+        cycle: fair_cycle(random),
+        room: SMALLEST_FRAME + payload.len(),
+        payload,
+    }
+}
+
+fn faulty_flags(flags: u8, faults: &[Refusal]) -> u8 {
+    let unnamed = flags & 0b1110_0000;
+    let indicators = with_startup_fault(Indicators::from_flags(flags), faults);
+    let reserved = faults.contains(&Refusal::ReservedToWrite);
+    unnamed | Indicators { reserved, ..indicators }.flags()
+}
+
+fn faulty_payload(random: &mut Random, payload: Vec<u8>, faults: &[Refusal]) -> Vec<u8> {
+    if !faults.contains(&Refusal::PayloadToWrite) {
+        return payload;
+    }
+    let size = match random.below(12) {
+        0 => LARGEST_PAYLOAD + 1,
+        1 => LARGEST_PAYLOAD + 2,
+        2 => random.between(LARGEST_PAYLOAD + 1, LIMIT),
+        _ => 2 * random.below(8) + 1,
+    };
+    random.bytes(size)
+}
+
+fn wrong_id(random: &mut Random) -> u16 {
+    match random.below(4) {
+        0 | 1 => 0,
+        2 => HIGHEST_ID + 1,
+        _ => random.between(usize::from(HIGHEST_ID) + 1, 65535) as u16,
+    }
+}
+
+fn wrong_cycle(random: &mut Random) -> u8 {
+    if random.coin() {
+        return random.pick(&[HIGHEST_CYCLE + 1, 255]);
+    }
+    random.between(usize::from(HIGHEST_CYCLE) + 1, 255) as u8
+}
+
+fn room_for(random: &mut Random, frame: usize, faults: &[Refusal]) -> usize {
+    if faults.contains(&Refusal::Output) {
+        return short_room(random, frame).min(LIMIT);
+    }
+    if random.coin() {
+        return frame.min(LIMIT);
+    }
+    (frame + random.below(9)).min(LIMIT)
+}
+
+fn short_room(random: &mut Random, frame: usize) -> usize {
+    match random.below(4) {
+        0 => 0,
+        1 => random.below(frame),
+        _ => frame - 1,
+    }
+}

@@ -1,0 +1,80 @@
+//! A second program for FlexRay frames: works out what a replay script must give, and makes such scripts.
+
+mod bits;
+mod cases;
+mod channel;
+mod checksum;
+mod draft;
+mod errors;
+mod faults;
+mod frame;
+mod mixture;
+mod plan;
+mod random;
+mod reached;
+mod refusal;
+mod replay;
+mod script;
+mod vectors;
+
+use std::error::Error;
+use std::io::{self, BufWriter, Read, Write};
+use std::path::Path;
+use std::process::ExitCode;
+use std::{env, fs};
+
+const USAGE: &str = "usage: second scripts DIR | random SEED COUNT | replay | errors DIR";
+
+type Done = Result<(), Box<dyn Error>>;
+
+fn main() -> ExitCode {
+    let arguments: Vec<String> = env::args().skip(1).collect();
+    let arguments: Vec<&str> = arguments.iter().map(String::as_str).collect();
+    let done = match arguments[..] {
+        ["scripts", directory] => write_scripts(Path::new(directory)),
+        ["random", seed, count] => write_random(seed, count),
+        ["replay"] => replay_input(),
+        ["errors", directory] => write_errors(Path::new(directory)),
+        _ => Err(USAGE.into()),
+    };
+    if let Err(error) = done {
+        eprintln!("second: {error}");
+        return ExitCode::FAILURE;
+    }
+    ExitCode::SUCCESS
+}
+
+fn write_scripts(directory: &Path) -> Done {
+    let vectors = vectors::build()?;
+    fs::create_dir_all(directory)?;
+    fs::write(directory.join("stdin"), &vectors.script)?;
+    fs::write(directory.join("stdout"), &vectors.text)?;
+    println!("{}", vectors.summary);
+    Ok(())
+}
+
+fn write_random(seed: &str, count: &str) -> Done {
+    let script = mixture::script(seed.parse()?, count.parse()?);
+    io::stdout().write_all(&script)?;
+    Ok(())
+}
+
+fn replay_input() -> Done {
+    let mut script = Vec::new();
+    io::stdin().read_to_end(&mut script)?;
+    let mut output = BufWriter::new(io::stdout().lock());
+    for outcome in replay::Replay::of(&script) {
+        writeln!(output, "{}", outcome.line())?;
+    }
+    output.flush()?;
+    Ok(())
+}
+
+fn write_errors(directory: &Path) -> Done {
+    fs::create_dir_all(directory)?;
+    for (number, small) in errors::all().iter().enumerate() {
+        fs::write(directory.join(format!("{number:02}.script")), &small.script)?;
+        fs::write(directory.join(format!("{number:02}.lines")), &small.text)?;
+    }
+    Ok(())
+}

@@ -1,0 +1,58 @@
+//! The refusals of 01 "Refusal numbers" that frames can meet.
+
+#[derive(Clone, Copy, Debug, PartialEq, Eq, PartialOrd, Ord)]
+pub enum Refusal {
+    Channel = 1,
+    TooFewBytes = 2,
+    Size = 3,
+    HeaderChecksum = 4,
+    WordsAgainstSize = 5,
+    IdRead = 6,
+    StartupWithoutSync = 7,
+    FrameChecksum = 8,
+    IdGiven = 9,
+    PayloadToWrite = 10,
+    Cycle = 11,
+    ReservedToWrite = 12,
+    Output = 13,
+}
+
+/// 01 "Refusal numbers", order of a read.
+pub const READ_ORDER: [Refusal; 8] = [
+    Refusal::Channel,
+    Refusal::TooFewBytes,
+    Refusal::Size,
+    Refusal::HeaderChecksum,
+    Refusal::WordsAgainstSize,
+    Refusal::IdRead,
+    Refusal::StartupWithoutSync,
+    Refusal::FrameChecksum,
+];
+
+/// 01 "Refusal numbers", order of a write.
+pub const WRITE_ORDER: [Refusal; 7] = [
+    Refusal::Channel,
+    Refusal::IdGiven,
+    Refusal::PayloadToWrite,
+    Refusal::Cycle,
+    Refusal::StartupWithoutSync,
+    Refusal::ReservedToWrite,
+    Refusal::Output,
+];
+
+impl Refusal {
+    pub fn number(self) -> u8 {
+        self as u8
+    }
+}
+
+#[cfg(test)]
+mod tests {
+    use super::*;
+
+    #[test]
+    fn orders_stand_as_in_the_paper() {
+        assert_eq!(READ_ORDER.map(Refusal::number), [1, 2, 3, 4, 5, 6, 7, 8]);
+        assert_eq!(WRITE_ORDER.map(Refusal::number), [1, 9, 10, 11, 7, 12, 13]);
+    }
+}
