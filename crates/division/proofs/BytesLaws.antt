@@ -6,8 +6,8 @@ use mathlib.Core.List.{List, [], _∷_, _++_, append-assoc}
 use native.Mathlib.Nat.{zero-add, suc-add, add-comm, add-mul, mul-assoc, lt-of-lt-of-le, pow-le-pow-right}
 use native.Mathlib.Omega.{arith}
 use lib.Pow.{shr-shr, pow-add}
-use lib.ListN.{length, getD, take, drop, length-append, length-take, length-drop, take-append-drop}
-use lib.Seq.{length-take-le, take-at, drop-at, take-nil}
+use lib.ListN.{length, take, drop, length-append, length-take, length-drop, take-append-drop}
+use lib.Seq.{length-take-le, take-at, drop-at}
 use Rattle.division.specs.Bits.{odd, bit, bits, number, bytesBits, bytesOf, AreBytes}
 use Rattle.division.proofs.BitsLaws.{length-bits, one-width, number-bits, number-lt, bits-number, bits-inj}
 
@@ -52,21 +52,6 @@ unfolding bytesBits
 bytes-append [] m = refl
 bytes-append (byte ∷ l) m =
     ap (λ (x : List Bool). bits 8 byte ++ x) (bytes-append l m) ∙ sym (append-assoc (bits 8 byte) (bytesBits l) (bytesBits m))
-
-bytes-parts : (n : ℕ) (l : List ℕ) → bytesBits l ≡ bytesBits (take n l) ++ bytesBits (drop n l)
-bytes-parts n l = ap bytesBits (sym (take-append-drop n l)) ∙ bytes-append (take n l) (drop n l)
-
-length-part : (n : ℕ) (l : List ℕ) → n ≤ length l → length (bytesBits (take n l)) ≡ 8 * n
-length-part n l h = length-bytes (take n l) ∙ ap (λ (k : ℕ). 8 * k) (length-take-le n l h)
-
--- whole bytes off the front of bits are those bytes' bits
-pub take-bytes : (n : ℕ) (l : List ℕ) → n ≤ length l → take (8 * n) (bytesBits l) ≡ bytesBits (take n l)
-take-bytes n l h =
-    ap (take (8 * n)) (bytes-parts n l) ∙ take-at (bytesBits (take n l)) (bytesBits (drop n l)) (8 * n) (length-part n l h)
-
-pub drop-bytes : (n : ℕ) (l : List ℕ) → n ≤ length l → drop (8 * n) (bytesBits l) ≡ bytesBits (drop n l)
-drop-bytes n l h =
-    ap (drop (8 * n)) (bytes-parts n l) ∙ drop-at (bytesBits (take n l)) (bytesBits (drop n l)) (8 * n) (length-part n l h)
 
 -- ---- lists of bytes
 

@@ -2,7 +2,7 @@
 use Prim.Native.Nat.{ℕ, suc, _+_, _-_, _/_, _^_, _≤_, _<_}
 use mathlib.Core.Path.{_≡_, sym, ap, _∙_}
 use mathlib.Core.Bool.{Bool}
-use mathlib.Core.List.{List, [], _∷_, _++_}
+use mathlib.Core.List.{List, [], _∷_}
 use native.Mathlib.Nat.{mod-eq-of-lt}
 use native.Mathlib.Numerals.{add-one}
 use native.Mathlib.Omega.{arith}
@@ -19,11 +19,6 @@ module _ (w poly : ℕ) where
   -- nothing is still to come
   end-nil : (r a : ℕ) → r < 2 ^ w → checksum w poly r [] ≡ a → r ≡ a
   end-nil r a h e = sym (mod-eq-of-lt h) ∙ sym (checksum-nil w poly r) ∙ e
-
-  -- one string fed after another
-  pub fed-append : (s r t : ℕ) (m n : List Bool) → Fed w poly s m r → Fed w poly r n t → Fed w poly s (m ++ n) t
-  fed-append s r t m n f g =
-      fed s t (m ++ n) (g .value ∙ ap (λ (x : ℕ). checksum w poly x n) (f .value) ∙ checksum-append w poly s m n)
 
   -- ---- over the bits of a number, the most significant of `count` first; `fed` of them have been fed
 

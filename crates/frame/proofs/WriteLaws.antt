@@ -12,7 +12,7 @@ use Rattle.frame.specs.declared.header.Fields.{Fields}
 use Rattle.frame.specs.declared.writer.Writing.{Writing}
 use Rattle.frame.specs.declared.writer.Writing.the-variants.{Written}
 use Rattle.frame.specs.Refusals.{badPayload}
-use Rattle.frame.specs.Write.{frameBytes, over, Told, refused, told, refusal, WriteSays}
+use Rattle.frame.specs.Write.{frameBytes, over, refused, told, refusal, WriteSays}
 
 -- neither of two conditions holds
 pub or-first : (a b : Bool) → a || b ≡ false → a ≡ false

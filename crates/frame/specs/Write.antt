@@ -1,7 +1,6 @@
 -- The entry `write`: what it answers, and what it leaves in the output.
 use Prim.Native.Nat.{ℕ, _+_, _/_}
 use mathlib.Core.Path.{_≡_}
-use mathlib.Core.Bool.{Bool}
 use mathlib.Core.List.{List, [], _∷_, _++_}
 use lib.ListN.{length, drop}
 use Rattle.refusal.specs.Refusal.{Line, _when_, first, ifAccepted}

@@ -45,7 +45,7 @@ impl Reading {
         ensures { λ r. ⌜ r ≡ told self .header ⌝ }
     {
         match self {
-            Reading::Accepted(header) => header,
+            Reading::Accepted(read) => read,
             Reading::NotAChannel => Header::NONE,
             Reading::TooShort => Header::NONE,
             Reading::BadSize => Header::NONE,
@@ -83,13 +83,15 @@ pub fn read_on(channel: Channel, bytes: &[u8]) -> Reading
     }
     let sent = number_of(&bytes[0..5]);
     let header = header::unpacked(sent);
+    let id = header.id.0;
+    let size = 8 + 2 * header.words as usize;
     if header.checksum != header::checksum_of(sent) {
         return Reading::HeaderChecksumDiffers;
     }
-    if 8 + 2 * header.words as usize != bytes.len() {
+    if size != bytes.len() {
         return Reading::WordsNotSize;
     }
-    if header.id.0 == 0 {
+    if id == 0 {
         return Reading::IdZero;
     }
     if header::startup_without_sync(header.startup, header.sync) {

@@ -77,10 +77,10 @@ pub fn write(channel: u8, fields: Fields, payload: &[u8], output: &mut [u8]) -> 
     if header::startup_without_sync(fields.startup, fields.sync) {
         return Writing::StartupWithoutSync;
     }
+    let size = payload.len() + 8;
     if fields.reserved {
         return Writing::ReservedSet;
     }
-    let size = payload.len() + 8;
     if output.len() < size {
         return Writing::OutputTooShort;
     }

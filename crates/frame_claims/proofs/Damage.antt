@@ -1,7 +1,6 @@
 -- The claims about damaged frames: a frame's bits end in their own checksum, and the facts of division do the rest.
-use Prim.Native.Nat.{ℕ, _+_, _*_, _%_, _^_, _<_, _≤_}
+use Prim.Native.Nat.{ℕ, _+_, _*_, _%_, _^_, _<_}
 use mathlib.Core.Path.{_≡_, sym, ap, _∙_}
-use mathlib.Core.Bool.{Bool}
 use mathlib.Core.List.{List, _++_, append-assoc}
 use native.Mathlib.Omega.{arith}
 use lib.ListN.{length, length-append}
@@ -17,7 +16,7 @@ use Rattle.checksum.specs.Checksums.{framePolynomial, frameDivision}
 use Rattle.checksum_claims.proofs.Checksums.{frame-facts, frames-four}
 use Rattle.frame.specs.declared.header.Header.{Header}
 use Rattle.frame.specs.Layout.{wholeHeader, frameChecksumOf, Frame}
-use Rattle.frame_claims.specs.Damage.{Apart, FramesApart, NotOnBoth}
+use Rattle.frame_claims.specs.Damage.{FramesApart, NotOnBoth}
 use Rattle.frame_claims.proofs.FrameLaws.{frame-size}
 
 module _ {channel : Channel} {bytes : List ℕ} {header : Header} {payload : List ℕ} (f : Frame channel bytes header payload) where

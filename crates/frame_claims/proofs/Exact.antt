@@ -1,19 +1,17 @@
 -- The claims about what is accepted and what is written, from the statements and from what reading tries.
-use Prim.Native.Nat.{ℕ, suc, _+_, _*_, _-_, _/_, _%_, _≤_}
+use Prim.Native.Nat.{ℕ, _+_, _*_, _-_, _/_, _%_, _≤_}
 use mathlib.Core.Path.{_≡_, refl, sym, ap, ap₂, _∙_, subst}
 use mathlib.Core.Bool.{Bool, true, false, _||_}
 use mathlib.Core.List.{List, [], _∷_, _++_, append-assoc}
-use native.Mathlib.Nat.{add-comm}
 use native.Mathlib.Omega.{arith}
-use borrow.Author.Tests.{ltb-false, ltb-true, eqb-false, le-ltb, ne-eqb}
-use lib.Dec.{eqb, ltb}
-use lib.ListN.{length, take, drop, length-append}
-use lib.Seq.{take-at, drop-at}
+use borrow.Author.Tests.{ltb-false, eqb-false, le-ltb, ne-eqb}
+use lib.Dec.{ltb}
+use lib.ListN.{length, take, drop}
 use Rattle.refusal.specs.Refusal.{_when_, first}
 use Rattle.refusal.proofs.FirstLaws.{first-zero, first-skip, first-here, first-end, if-accepted}
 use Rattle.division.specs.Bits.{odd, bits, bytesBits, bytesOf, AreBytes}
 use Rattle.division.proofs.BitsLaws.{length-bits}
-use Rattle.division.proofs.BytesLaws.{bytes-append, bytes-inj, length-bytes-of, are-bytes-of, are-bytes-append, bits-bytes-of}
+use Rattle.division.proofs.BytesLaws.{bytes-append, bytes-inj, are-bytes-of, are-bytes-append, bits-bytes-of}
 use Rattle.checksum.specs.declared.Channel.{Channel}
 use Rattle.checksum.specs.declared.Named.the-variants.{Is}
 use Rattle.checksum.specs.Channel.{notAChannel, channelOf, namedBy}
@@ -21,11 +19,9 @@ use Rattle.checksum.specs.Checksums.{frameDivision, frameChecksum}
 use Rattle.checksum.proofs.ChannelLaws.{named-is, is-named}
 use Rattle.frame.specs.declared.header.Header.{Header}
 use Rattle.frame.specs.declared.header.Fields.{Fields}
-use Rattle.frame.specs.declared.reader.Reading.{Reading}
 use Rattle.frame.specs.declared.reader.Reading.the-variants.{Accepted}
-use Rattle.frame.specs.declared.writer.Writing.{Writing}
 use Rattle.frame.specs.declared.writer.Writing.the-variants.{Written, ReservedSet}
-use Rattle.frame.specs.Layout.{wholeHeader, headerChecksumOf, frameChecksumOf, Frame}
+use Rattle.frame.specs.Layout.{wholeHeader, frameChecksumOf, Frame}
 use Rattle.frame.specs.Refusals.{notAnId, badPayload, cycleTooHigh, startupWithoutSync, outputTooShort}
 use Rattle.frame.specs.Read as read
 use Rattle.frame.specs.Read.{headerRead, payloadRead, refusalsOn, ReadSays, PayloadSays}

@@ -1,22 +1,21 @@
 -- The layout rule and what reading tries: bytes in three parts, and the bits of each.
-use Prim.Native.Nat.{ℕ, suc, _+_, _*_, _-_, _/_, _%_, _^_, _<_, _≤_}
-use mathlib.Core.Path.{_≡_, refl, sym, ap, ap₂, _∙_}
-use mathlib.Core.Bool.{Bool, true, false}
-use mathlib.Core.List.{List, [], _∷_, _++_, append-assoc, append-nil}
+use Prim.Native.Nat.{ℕ, _+_, _*_, _-_, _%_, _^_, _<_, _≤_}
+use mathlib.Core.Path.{_≡_, sym, ap, ap₂, _∙_}
+use mathlib.Core.Bool.{Bool}
+use mathlib.Core.List.{List, [], _∷_, _++_}
 use native.Mathlib.Nat.{mod-eq-of-lt, lt-of-lt-of-le, pow-le-pow-right}
 use native.Mathlib.Omega.{arith}
 use lib.ListN.{length, take, drop, length-append, length-take, length-drop, take-append-drop}
-use lib.Seq.{length-take-le, take-at, drop-at, take-all, take-add, drop-drop}
-use Rattle.division.specs.Bits.{bits, number, bytesBits, bytesOf, AreBytes}
-use Rattle.division.proofs.BitsLaws.{length-bits, number-lt, number-bits, bits-number}
-use Rattle.division.proofs.BytesLaws.{bits-mod, append-apart, length-bytes, bytes-append, bytes-inj, are-bytes-take, are-bytes-drop}
+use lib.Seq.{length-take-le, take-all, take-add, drop-drop}
+use Rattle.division.specs.Bits.{bits, number, bytesBits}
+use Rattle.division.proofs.BitsLaws.{length-bits, number-lt, bits-number}
+use Rattle.division.proofs.BytesLaws.{length-bytes, bytes-append}
 use Rattle.division.proofs.RegisterLaws.{checksum-lt}
 use Rattle.checksum.specs.declared.Channel.{Channel}
-use Rattle.checksum.specs.Channel.{startOf}
-use Rattle.checksum.specs.Checksums.{headerPolynomial, headerStart, framePolynomial, headerBits, frameDivision, frameChecksum}
+use Rattle.checksum.specs.Checksums.{headerPolynomial, headerStart, headerBits}
 use Rattle.frame.specs.declared.header.Header.{Header}
-use Rattle.frame.specs.Layout.{wholeHeader, frameBits, headerChecksumOf, frameChecksumOf, Frame}
-use Rattle.frame.specs.Read.{flag, field, headerIn, headerRead, payloadRead, trailerRead}
+use Rattle.frame.specs.Layout.{wholeHeader, headerChecksumOf, frameChecksumOf, Frame}
+use Rattle.frame.specs.Read.{field, headerIn, headerRead, payloadRead}
 use Rattle.frame.proofs.HeaderLaws.{header-front, whole-fields}
 
 -- ---- a header and its 40 bits

@@ -1,27 +1,26 @@
 -- Nothing is refused exactly when the bytes are a frame.
-use Prim.Native.Nat.{ℕ, suc, _+_, _*_, _-_, _%_, _^_, _<_, _≤_}
+use Prim.Native.Nat.{ℕ, _+_, _*_, _-_, _%_, _^_, _<_, _≤_}
 use mathlib.Core.Path.{_≡_, refl, sym, ap, ap₂, _∙_}
-use mathlib.Core.Bool.{Bool, true, false, false≢true, not, _&&_, _||_}
-use mathlib.Core.List.{List, [], _∷_, _++_}
+use mathlib.Core.Bool.{Bool, true, false, false≢true, not, _||_}
+use mathlib.Core.List.{List, _++_}
 use native.Mathlib.Nat.{mod-eq-of-lt}
 use native.Mathlib.Omega.{arith}
 use borrow.Author.Tests.{ltb-false, eqb-true, eqb-false, not-false, le-ltb, eq-eqb, ne-eqb}
-use lib.Dec.{eqb, ltb}
+use lib.Dec.{ltb}
 use lib.ListN.{length, take, drop}
 use Rattle.refusal.specs.Refusal.{first}
 use Rattle.refusal.proofs.FirstLaws.{first-zero, first-skip, first-end}
 use Rattle.division.specs.Bits.{odd, bits, number, bytesBits, AreBytes}
-use Rattle.division.proofs.BitsLaws.{length-bits, number-bits, bits-number}
+use Rattle.division.proofs.BitsLaws.{number-bits, bits-number}
 use Rattle.division.proofs.BytesLaws.{append-apart, length-bytes, bytes-inj, are-bytes-take, are-bytes-drop}
 use Rattle.division.proofs.RegisterLaws.{checksum-lt}
 use Rattle.checksum.specs.declared.Channel.{Channel}
 use Rattle.checksum.specs.Channel.{startOf}
 use Rattle.checksum.specs.Checksums.{framePolynomial, frameDivision, frameChecksum}
 use Rattle.frame.specs.declared.header.Header.{Header}
-use Rattle.frame.specs.Layout.{wholeHeader, headerChecksumOf, frameChecksumOf, Frame}
+use Rattle.frame.specs.Layout.{wholeHeader, frameChecksumOf, Frame}
 use Rattle.frame.specs.Refusals.{tooShort, badSize, headerChecksumDiffers, wordsNotSize, idZero, startupWithoutSync, frameChecksumDiffers}
 use Rattle.frame.specs.Read.{headerIn, headerRead, payloadRead, trailerRead, refusalsOn}
-use Rattle.frame.proofs.HeaderLaws.{header-front}
 use Rattle.frame_claims.proofs.FrameLaws.{length-whole, whole-header, header-whole, length-five, length-trailer, three-parts, two-parts, length-payload, header-checksum-small, field-small, header-of-five, frame-size}
 
 -- ---- startup only with sync, as a test and in words

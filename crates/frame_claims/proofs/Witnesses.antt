@@ -27,7 +27,7 @@ use Rattle.frame.specs.Read.{headerRead, payloadRead, ReadSays, PayloadSays}
 use Rattle.frame.specs.Write as write
 use Rattle.frame.specs.Write.{headerOf, frameBytes, over, WriteSays}
 use Rattle.frame.proofs.OverLaws.{length-over, length-frame}
-use Rattle.frame_claims.specs.Damage.{Apart, ApartIfAccepted}
+use Rattle.frame_claims.specs.Damage.{ApartIfAccepted}
 use Rattle.frame_claims.specs.Exact.{FrameOn, fieldsOf, AcceptsFrames, Rewritten, Reread, RereadPayload}
 use Rattle.frame_claims.proofs.Answers.{read-one, write-one, written-answer, refused-unchanged}
 use Rattle.frame_claims.proofs.Exact.{given-part, frame-of, frame-none, frame-says, read-exactly, front-frame, written-again, one-channel}

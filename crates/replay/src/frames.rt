@@ -9,17 +9,13 @@ use frame::Slot;
 
 // `F`: channel, size, bytes.
 pub fn frame_checksum() -> bool {
-    let mut channel = [0u8; 1];
-    if !script::take(&mut channel) {
-        return false;
-    }
     let mut space = [0u8; script::MOST];
-    let size = script::take_bytes(&mut space);
-    if size.is_script_error {
+    let item = script::take_on_channel(&mut space);
+    if item.is_script_error {
         return false;
     }
-    let end = size.bytes;
-    answer_checksum(channel[0], &space[0..end]);
+    let end = item.bytes;
+    answer_checksum(item.channel, &space[0..end]);
     true
 }
 
@@ -35,17 +31,13 @@ fn answer_checksum(channel: u8, bytes: &[u8]) {
 
 // `R`: channel, size, bytes.
 pub fn read() -> bool {
-    let mut channel = [0u8; 1];
-    if !script::take(&mut channel) {
-        return false;
-    }
     let mut space = [0u8; script::MOST];
-    let size = script::take_bytes(&mut space);
-    if size.is_script_error {
+    let item = script::take_on_channel(&mut space);
+    if item.is_script_error {
         return false;
     }
-    let end = size.bytes;
-    answer_read(channel[0], &space[0..end]);
+    let end = item.bytes;
+    answer_read(item.channel, &space[0..end]);
     true
 }
 

@@ -69,6 +69,35 @@ pub fn take_bytes(space: &mut [u8]) -> Size
     size
 }
 
+// A channel, and how many bytes stand in the front of a space. All zeros where a script error stands in their place.
+pub struct OnChannel {
+    pub is_script_error: bool,
+    pub channel: u8,
+    pub bytes: usize,
+}
+
+const NOTHING_TAKEN: OnChannel = OnChannel {
+    is_script_error: true,
+    channel: 0,
+    bytes: 0,
+};
+
+// Takes a channel, a size, and as many bytes into the front of the space.
+pub fn take_on_channel(space: &mut [u8]) -> OnChannel
+    ensures { λ r. ⌜ r .bytes ≤ length (now (space .entry)) ⌝ }
+{
+    let mut channel = [0u8; 1];
+    if !take(&mut channel) {
+        return NOTHING_TAKEN;
+    }
+    let size = take_bytes(space);
+    OnChannel {
+        is_script_error: size.is_script_error,
+        channel: channel[0],
+        bytes: size.bytes,
+    }
+}
+
 // The number that two bytes of the script make.
 pub fn number(low: u8, high: u8) -> u16 {
     high as u16 * 256 + low as u16

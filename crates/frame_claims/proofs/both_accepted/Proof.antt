@@ -1,5 +1,4 @@
 -- `both_accepted`: two strings that are both accepted are far apart.
-use mathlib.Core.Path.{_≡_, sym}
 use mathlib.Core.Bool.{true, false, false≢true}
 use borrow.Author.Tests.{not-false}
 use denote.Ref.{now}

@@ -1,7 +1,9 @@
 -- `checksum_of` meets its contract: the bits fed are the 20 under the checksum.
 use Rattle.frame.specs.Read.{headerIn}
 use borrow.Author.Needs.{needs}
-use mathlib.Core.Path.{_∙_, ap}
+use Prim.Native.Nat.{_/_, _^_}
+use mathlib.Core.Path.{_≡_, _∙_, ap}
+use Rattle.division.specs.Bits.{bits}
 use Rattle.checksum.specs.Checksums.{headerDivision}
 use Rattle.frame.proofs.HeaderLaws.{covered-bits}
 use Rattle.frame.proofs.header.checksum_of.Statement.{statement}
@@ -15,7 +17,10 @@ header-checksum-requires c κs = search needs
 
 returns : tie.Need-returns
 unfolding headerIn
-returns c = c .«header-checksum» .ensures ∙ ap headerDivision (covered-bits (c .before .args .number))
+returns c =
+    let number = c .before .args .number in
+    let fed : c .«header-checksum» .result ≡ headerDivision (bits 20 (number / 2 ^ 17)) = c .«header-checksum» .ensures in
+    fed ∙ ap headerDivision (covered-bits number)
 
 pub checksum-of-spec : {M : Type 1} → statement M
 checksum-of-spec = tie.close (tie.spec header-checksum-requires returns)

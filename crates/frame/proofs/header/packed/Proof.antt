@@ -1,6 +1,5 @@
 -- `packed` meets its contract: each field behind those before it.
 use borrow.Author.Needs.{needs}
-use mathlib.Core.Path.{_≡_, _∙_, ap}
 use Rattle.frame.proofs.HeaderLaws.{five-bits, packed-bits}
 use Rattle.frame.proofs.header.packed.Statement.{statement}
 use Rattle.frame.proofs.header.packed.Tie as tie

@@ -8,7 +8,7 @@ use Rattle.refusal.proofs.FirstLaws.{first-skip, first-here}
 use Rattle.checksum.specs.declared.Channel.{Channel}
 use Rattle.checksum.specs.Channel.{notAChannel, channelOf}
 use Rattle.checksum.proofs.ChannelLaws.{named-is, named-not}
-use Rattle.frame.specs.Read.{refusalsOn, rule}
+use Rattle.frame.specs.Read.{told, refusalsOn, rule}
 use borrow.Author.Needs.{needs}
 use Rattle.frame.proofs.reader.read.Statement.{statement}
 use Rattle.frame.proofs.reader.read.Tie as tie
@@ -41,7 +41,8 @@ returns-2 c =
     let channel : Channel = c .before .before .named2 .given .0 .0 in
     let e : (notAChannel (a .channel) ≡ false) × (channelOf (a .channel) ≡ channel) =
     named-is (a .channel) channel (sym (c .before .before .before .before .named .ensures) ∙ c .before .before .named2 .given .1) in
-    c .read-on .ensures
+    let says : told (c .read-on .result) ≡ rule (first (refusalsOn channel (now (a .bytes)))) (now (a .bytes)) = c .read-on .ensures in
+    says
     ∙ ap (λ (n : ℕ). rule n (now (a .bytes)))
     (ap (λ (k : Channel). first (refusalsOn k (now (a .bytes)))) (sym (e .1)) ∙ sym (first-skip 1 _ (e .0)))
 

@@ -1,10 +1,10 @@
 -- `read_on` meets its contract: at each return, which conditions were tried and which holds.
 use borrow.Author.Tests.{lt-ltb, le-ltb, eq-eqb, ne-eqb}
-use mathlib.Core.Path.{_≡_, refl, sym, ap, _∙_}
-use Prim.Native.Nat.{ℕ, _%_, _*_, _+_, _-_}
+use mathlib.Core.Path.{_≡_, sym, ap, _∙_}
+use Prim.Native.Nat.{ℕ, _%_, _-_}
 use mathlib.Core.Bool.{Bool, true, false, not, _||_}
 use mathlib.Core.List.{List, _∷_}
-use lib.Dec.{eqb, ltb}
+use lib.Dec.{ltb}
 use native.Mathlib.Nat.{sub-zero}
 use native.Mathlib.Omega.{arith}
 use lib.ListN.{length, take, drop, length-drop}
@@ -26,7 +26,7 @@ use Rattle.frame.proofs.reader.read_on.Tie as tie
 use Rattle.frame.proofs.reader.read_on.Reads as reads
 use Rattle.frame.proofs.reader.read_on.Lts as lts
 use Rattle.checksum.proofs.frame_checksum_on.Reads as frame-checksum-on-reads
-use Rattle.frame.proofs.header.checksum_of.Reads as checksum-number-of-reads
+use Rattle.frame.proofs.header.checksum_of.Reads as checksum-of-reads
 use Rattle.frame.proofs.header.startup_without_sync.Reads as startup-without-sync-reads
 use Rattle.frame.proofs.header.unpacked.Reads as unpacked-reads
 use Rattle.frame.proofs.reader.number_of.Reads as number-of-reads
@@ -46,13 +46,13 @@ abbrev channelIn : tie.After-unpacked → Channel
 channelIn c = c .before .before .before .before .before .before .before .args .channel
 
 abbrev read4 : tie.Else4 → tie.After-unpacked
-read4 c = c .before .before .before
+read4 c = c .before .before .before .before
 
 abbrev read5 : tie.Else5 → tie.After-unpacked
-read5 c = read4 (c .before .before)
+read5 c = read4 (c .before)
 
 abbrev read6 : tie.Else6 → tie.After-unpacked
-read6 c = read5 (c .before .before)
+read6 c = read5 (c .before)
 
 abbrev read7 : tie.Else7 → tie.After-unpacked
 read7 c = read6 (c .before .before)
@@ -65,8 +65,14 @@ moved : (c : tie.After-unpacked) (f : Header → Bool) → f (headerRead (in4 c)
 moved c f = ap f (sym (header-is c))
 
 -- the checksum that was worked out belongs to it
-belongs : (c : tie.After-checksum-of) → c .«checksum-of» .result ≡ headerChecksumOf (c .before .unpacked .result)
-belongs c = c .«checksum-of» .ensures ∙ ap headerChecksumOf (sym (c .before .unpacked .ensures))
+belongs : (c : tie.After-checksum-of) → c .«checksum-of» .result ≡ headerChecksumOf (c .before .before .unpacked .result)
+belongs c = c .«checksum-of» .ensures ∙ ap headerChecksumOf (sym (c .before .before .unpacked .ensures))
+
+-- 7 was tried of its startup and its sync
+tried7 : (c : tie.After-startup-without-sync)
+    → let h = read6 (c .before) .unpacked .result in
+    c .«startup-without-sync» .result ≡ startupWithoutSync (h .startup) (h .sync)
+tried7 c = c .«startup-without-sync» .ensures
 
 -- the trailer that was read is the bytes'
 trailer-is : (c : tie.After-number-of2) → c .«number-of2» .result ≡ trailerRead (in4 (read7 (c .before .before)))
@@ -105,7 +111,7 @@ id-good c = moved (read6 c) idZero ∙ ne-eqb _ 0 (c .if6 .left)
 
 startup-good : (c : tie.Else7) → startupWithoutSync (headerRead (in4 (read7 c)) .startup) (headerRead (in4 (read7 c)) .sync) ≡ false
 startup-good c =
-    moved (read7 c) (λ h. startupWithoutSync (h .startup) (h .sync)) ∙ sym (c .before .«startup-without-sync» .ensures) ∙ c .if7 .left
+    moved (read7 c) (λ h. startupWithoutSync (h .startup) (h .sync)) ∙ sym (tried7 (c .before)) ∙ c .if7 .left
 
 -- ---- the answers
 
@@ -137,7 +143,7 @@ to6 : (c : tie.Else5) (l : List Line)
     (2 when tooShort (in4 (read5 c)) ∷ 3 when badSize (in4 (read5 c)) ∷ 4 when headerChecksumDiffers (headerRead (in4 (read5 c)))
     ∷ 5 when wordsNotSize (headerRead (in4 (read5 c))) (in4 (read5 c)) ∷ l)
     ≡ first l
-to6 c l = to4 (read5 c) _ ∙ first-skip 4 _ (checksum-good (c .before .before)) ∙ first-skip 5 l (words-good c)
+to6 c l = to4 (read5 c) _ ∙ first-skip 4 _ (checksum-good (c .before)) ∙ first-skip 5 l (words-good c)
 
 sub-number-of : tie.Need-sub-number-of
 sub-number-of c = search needs
@@ -154,34 +160,34 @@ number-of-requires c κs = search needs
 unpacked-requires : tie.Need-unpacked-requires
 unpacked-requires c κs = search needs
 
+cast-size : tie.Need-cast-size
+cast-size c = search needs
+
+mul-size : tie.Need-mul-size
+mul-size c = search needs
+
+add-size : tie.Need-add-size
+add-size c = search needs
+
 checksum-of-requires : tie.Need-checksum-of-requires
 checksum-of-requires c κs = search needs
 
 returns-4 : tie.Need-returns-4
 returns-4 c =
-    let u = c .before .before .before in
+    let u = c .before .before .before .before in
     let differs = moved u headerChecksumDiffers ∙ ap not (ne-eqb _ _ (λ q. c .if4 .taken (q ∙ sym (belongs (c .before .before))))) in
     ap (λ (n : ℕ). rule n (in4 u)) (sym (to4 u _ ∙ first-here 4 _ differs))
 
-cast-if5 : tie.Need-cast-if5
-cast-if5 c = search needs
-
-mul-if5 : tie.Need-mul-if5
-mul-if5 c = search needs
-
-add-if5 : tie.Need-add-if5
-add-if5 c = search needs
-
 returns-5 : tie.Need-returns-5
 returns-5 c =
-    let e = c .before .before in
+    let e = c .before in
     let bytes = in4 (read4 e) in
     let differs = moved (read4 e) (λ h. wordsNotSize h bytes) ∙ ap not (ne-eqb _ _ (c .if5 .taken)) in
     ap (λ (n : ℕ). rule n bytes) (sym (to4 (read4 e) _ ∙ first-skip 4 _ (checksum-good e) ∙ first-here 5 _ differs))
 
 returns-6 : tie.Need-returns-6
 returns-6 c =
-    let e = c .before .before in
+    let e = c .before in
     let zero = moved (read5 e) idZero ∙ eq-eqb _ 0 (c .if6 .taken) in
     ap (λ (n : ℕ). rule n (in4 (read5 e)))
     (sym (to6 e _ ∙ first-here 6 _ zero))
@@ -192,10 +198,10 @@ startup-without-sync-requires c κs = search needs
 returns-7 : tie.Need-returns-7
 returns-7 c =
     let e = c .before .before in
-    let set = moved (read6 e) (λ h. startupWithoutSync (h .startup) (h .sync)) ∙ sym (c .before .«startup-without-sync» .ensures) ∙ c .if7 .taken in
+    let set = moved (read6 e) (λ h. startupWithoutSync (h .startup) (h .sync)) ∙ sym (tried7 (c .before)) ∙ c .if7 .taken in
     ap (λ (n : ℕ). rule n (in4 (read6 e)))
     (sym
-    (to6 (e .before .before) _ ∙ first-skip 6 _ (id-good e)
+    (to6 (e .before) _ ∙ first-skip 6 _ (id-good e)
     ∙ first-here 7 _ set))
 
 sub-end : tie.Need-sub-end
@@ -235,7 +241,7 @@ returns-8 c =
     let differs : frameChecksumDiffers (channelIn (read7 e)) bytes (trailerRead bytes) ≡ true =
     ap not
     (ne-eqb _ _ (λ q. c .if8 .taken (trailer-is (c .before .before .before) ∙ q ∙ sym (worked-out (c .before))))) in
-    ap (λ (n : ℕ). rule n bytes) (sym (to6 (e .before .before .before .before) _ ∙ first-skip 6 _ (id-good (e .before .before)) ∙ first-skip 7 _ (startup-good e) ∙ first-here 8 _ differs))
+    ap (λ (n : ℕ). rule n bytes) (sym (to6 (e .before .before .before) _ ∙ first-skip 6 _ (id-good (e .before .before)) ∙ first-skip 7 _ (startup-good e) ∙ first-here 8 _ differs))
 
 returns-9 : tie.Need-returns-9
 returns-9 c =
@@ -244,7 +250,7 @@ returns-9 c =
     let same : frameChecksumDiffers (channelIn (read7 e)) bytes (trailerRead bytes) ≡ false =
     ap not (eq-eqb _ _ (sym (trailer-is (c .before .before .before)) ∙ c .if8 .left ∙ worked-out (c .before))) in
     ap (λ (h : Header). record { number = 0; header = h }) (header-is (read7 e))
-    ∙ ap (λ (n : ℕ). rule n bytes) (sym (to6 (e .before .before .before .before) _ ∙ first-skip 6 _ (id-good (e .before .before)) ∙ first-skip 7 _ (startup-good e) ∙ first-skip 8 _ same ∙ first-end))
+    ∙ ap (λ (n : ℕ). rule n bytes) (sym (to6 (e .before .before .before) _ ∙ first-skip 6 _ (id-good (e .before .before)) ∙ first-skip 7 _ (startup-good e) ∙ first-skip 8 _ same ∙ first-end))
 
 pub read-on-spec : {M : Type 1} → statement M
 read-on-spec =
@@ -258,11 +264,11 @@ read-on-spec =
     part-number-of-end
     number-of-requires
     unpacked-requires
+    cast-size
+    mul-size
+    add-size
     checksum-of-requires
     returns-4
-    cast-if5
-    mul-if5
-    add-if5
     returns-5
     returns-6
     startup-without-sync-requires

@@ -1,13 +1,11 @@
 -- `header_of` meets its contract: the checksum of a header goes by sync, startup, ID and words, whatever stands in its own place.
-use mathlib.Core.Path.{_≡_, _∙_, ap}
+use mathlib.Core.Path.{_∙_, ap}
 use Prim.Native.Nat.{ℕ}
 use mathlib.Core.Bool.{Bool}
 use mathlib.Core.List.{List}
-use Rattle.checksum.specs.Checksums.{headerChecksum}
 use Rattle.frame.specs.declared.header.Header.{Header}
 use Rattle.frame.specs.Layout.{headerChecksumOf}
 use Rattle.frame.specs.Read.{headerIn}
-use Rattle.frame.specs.Write.{headerOf}
 use Rattle.frame.proofs.HeaderLaws.{checksum-whole}
 use borrow.Author.Needs.{needs}
 use Rattle.frame.proofs.writer.header_of.Statement.{statement}

@@ -2,7 +2,11 @@
 use borrow.Author.Tests.{eq-eqb, ne-eqb}
 use denote.Ref.{now}
 use Prim.Native.Nat.{_%_}
+use mathlib.Core.Path.{_≡_, sym, ap}
+use mathlib.Core.Bool.{Bool, _||_}
+use lib.Dec.{ltb}
 use lib.ListN.{length}
+use Rattle.frame.specs.Refusals.{badPayload}
 use Rattle.frame.proofs.writer.is_bad.Statement.{statement}
 use Rattle.frame.proofs.writer.is_bad.Tie as tie
 use Rattle.frame.proofs.writer.is_bad.Reads as reads
@@ -12,7 +16,11 @@ returns : tie.Need-returns
 returns c = rw (eq-eqb (length (now (c .before .args .payload)) % 2) 1 (c .if1 .taken))
 
 returns-2 : tie.Need-returns-2
-returns-2 c = rw (ne-eqb (length (now (c .before .args .payload)) % 2) 1 (c .if1 .left))
+returns-2 c =
+    let n = length (now (c .before .args .payload)) in
+    let last : ltb 254 n ≡ badPayload (now (c .before .args .payload)) =
+    ap (λ (b : Bool). b || ltb 254 n) (sym (ne-eqb (n % 2) 1 (c .if1 .left))) in
+    last
 
 pub is-bad-spec : {M : Type 1} → statement M
 is-bad-spec = tie.close (tie.spec returns returns-2)

@@ -1,5 +1,5 @@
 -- `lay` meets its contract: header, payload and trailer, each laid behind what lies there.
-use mathlib.Core.Path.{_≡_, sym, ap, ap₂, _∙_}
+use mathlib.Core.Path.{_≡_, ap, ap₂, _∙_}
 use Prim.Native.Nat.{ℕ, _+_, _-_, _/_}
 use mathlib.Core.Bool.{Bool}
 use mathlib.Core.List.{List, _++_}
@@ -120,9 +120,9 @@ returns c =
     let out = putMid 5 (length (laidHeader filled) - 5) (laidHeader filled) (filled .fill .last .0) in
     let laid : out ≡ over start output = payload-laid filled in
     let long : length start ≡ end = length-start (a .fields) payload in
+    let fed : checksum .result ≡ frameChecksum (a .channel) (take (end - 0) out) = checksum .ensures in
     let right : checksum .result ≡ frameChecksum (a .channel) start =
-    checksum .ensures
-    ∙ ap (frameChecksum (a .channel)) (ap (λ (k : ℕ). take k out) (sub-zero end) ∙ ap (take end) laid ∙ take-over start output end long) in
+    fed ∙ ap (frameChecksum (a .channel)) (ap (λ (k : ℕ). take k out) (sub-zero end) ∙ ap (take end) laid ∙ take-over start output end long) in
     let trailer : List ℕ = bytesOf 3 (bits 24 (frameChecksum (a .channel) start)) in
     lent-end end out (bytesOf 3 (bits 24 (checksum .result))) (c .before .before .«put-trailer» .last .0) (c .before .before .«put-trailer» .ensures)
     ∙ ap₂ (λ (n : ℕ) (l : List ℕ). take end l ++ over (bytesOf 3 (bits 24 n)) (drop end l)) right laid

@@ -1,13 +1,12 @@
 -- `put_number` meets its contract. The invariant: what has been laid, with what is still to be laid, is the answer.
 use borrow.Author.Needs.{needs}
 use mathlib.Core.Path.{_≡_, refl, sym, ap, _∙_}
-use Prim.Native.Nat.{ℕ, suc, _*_, _-_, _/_, _%_, _^_, _≤_, _<_}
+use Prim.Native.Nat.{ℕ, suc, _*_, _-_, _/_, _%_, _^_, _≤_}
 use mathlib.Core.List.{List, _++_}
 use native.Mathlib.Nat.{sub-zero}
 use native.Mathlib.Numerals.{add-one}
 use native.Mathlib.Omega.{arith}
-use lib.ListN.{length, take, drop, set, length-set}
-use denote.Ref.{now}
+use lib.ListN.{length, take, drop, length-set}
 use Rattle.division.specs.Bits.{bits, bytesOf}
 use Rattle.frame.specs.Write.{over}
 use Rattle.frame.proofs.NumberLaws.{bytes-of-suc}

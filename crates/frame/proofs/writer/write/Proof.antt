@@ -44,6 +44,12 @@ named3 c = named1 (c .before .before .before .before)
 abbrev named4 : tie.Else4 → tie.After-known-told
 named4 c = named3 (c .before .before)
 
+abbrev sized : tie.Then6 → tie.Else5
+sized c = c .before
+
+abbrev roomy : tie.Else6 → tie.Else5
+roomy c = c .before
+
 -- a refusal, from the number that the order gives
 refuse : (k : tie.After-known-told) (answer : Writing) (n : ℕ) → told answer ≡ refused (suc n)
     → let a = entry k .args in
@@ -150,24 +156,24 @@ returns-5 c =
     let e = sym (c .before .«startup-without-sync» .ensures) ∙ c .if4 .taken in
     refuse (named3 p) StartupWithoutSync 6 refl (to7 p _ ∙ first-here 7 _ e)
 
+add-size : tie.Need-add-size
+add-size c = search needs
+
 returns-6 : tie.Need-returns-6
 returns-6 c =
     let p = c .before in
     refuse (named4 p) ReservedSet 11 refl (to7 (p .before .before) _ ∙ first-skip 7 _ (startup-good p) ∙ first-here 12 _ (c .if5 .taken))
 
-add-size : tie.Need-add-size
-add-size c = search needs
-
 returns-7 : tie.Need-returns-7
 returns-7 c =
-    let p = c .before in
+    let p = sized c in
     let a = entry (named4 (p .before)) .args in
     let short : outputTooShort (now (a .payload)) (now (a .output)) ≡ true = lt-ltb (length (now (a .output))) (8 + length (now (a .payload))) (omega arith) in
     refuse (named4 (p .before)) OutputTooShort 12 refl (to13 p _ ∙ first-here 13 _ short)
 
 lay-requires : tie.Need-lay-requires
 lay-requires c κs =
-    let p = c .before .before in
+    let p = roomy (c .before) in
     let a = entry (named4 (p .before)) .args in
     (payload-at-most (now (a .payload)) (payload-good (p .before .before .before .before .before)), omega arith)
 
@@ -177,7 +183,7 @@ same-length c = search needs
 returns-8 : tie.Need-returns-8
 returns-8 c =
     let laid = c .before .before in
-    let p = laid .before .before .before in
+    let p = roomy (laid .before .before) in
     let k = named4 (p .before) in
     let a = entry k .args in
     let payload = now (a .payload) in
@@ -203,8 +209,8 @@ write-spec =
     returns-4
     startup-without-sync-requires
     returns-5
-    returns-6
     add-size
+    returns-6
     returns-7
     lay-requires
     same-length

@@ -1,7 +1,7 @@
 -- `header` meets its contract: a refused case has all zeros.
 use mathlib.Core.Path.{_≡_, sym, ap}
 use Rattle.frame.specs.declared.reader.Reading.{Reading}
-use Rattle.frame.specs.Read.{noHeader, told}
+use Rattle.frame.specs.Read.{told}
 use borrow.Author.Needs.{needs}
 use Rattle.frame.proofs.reader.Reading.header.Statement.{statement}
 use Rattle.frame.proofs.reader.Reading.header.Tie as tie
