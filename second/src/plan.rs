@@ -4,7 +4,7 @@ use crate::refusal::Refusal;
 use crate::replay::Answer;
 use crate::script::Command;
 
-/// What must come of a command, worked out from the case and not by the reader or writer.
+/// What must come of a command: what its case demands, or in a round trip what the command before it gave.
 #[derive(Clone, Debug)]
 pub enum Expected {
     Anything,

@@ -224,11 +224,17 @@ fn required_notes() -> Vec<Note> {
     all
 }
 
-/// Every two causes of an entry, the first in its order named first.
+/// Every two causes of an entry that can stand together, the first in its order named first.
 fn coincidences(letter: char, order: &[Refusal]) -> Vec<Note> {
     let mut all = Vec::new();
     for (place, first) in order.iter().enumerate() {
-        all.extend(order[place + 1..].iter().map(|later| Note::Coincidence(letter, *first, *later)));
+        let later = order[place + 1..].iter().filter(|later| can_stand_together(*first, **later));
+        all.extend(later.map(|later| Note::Coincidence(letter, *first, *later)));
     }
     all
+}
+
+/// Fewer than 8 bytes have no whole header and no trailer, so that besides 2 only their size can be a cause.
+fn can_stand_together(first: Refusal, later: Refusal) -> bool {
+    first != Refusal::TooFewBytes || later == Refusal::Size
 }

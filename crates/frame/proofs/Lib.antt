@@ -1,4 +1,5 @@
 pub mod NumberLaws
 pub mod HeaderLaws
+pub mod ReadLaws
 pub mod OverLaws
 pub mod WriteLaws

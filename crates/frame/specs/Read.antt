@@ -1,7 +1,7 @@
 -- The entries `read` and `payload`: what they answer for a channel number and bytes.
-use Prim.Native.Nat.{ℕ, _-_}
+use Prim.Native.Nat.{ℕ, _+_, _-_}
 use mathlib.Core.Path.{_≡_}
-use mathlib.Core.Bool.{Bool, false}
+use mathlib.Core.Bool.{Bool, false, cond}
 use mathlib.Core.List.{List, [], _∷_}
 use lib.ListN.{length, getD, take, drop}
 use Rattle.refusal.specs.Refusal.{Line, _when_, first, ifAccepted}
@@ -22,7 +22,7 @@ flag place x = getD x place false
 abbrev pub field : ℕ → ℕ → List Bool → ℕ
 field place width x = number (take width (drop place x))
 
--- The header at the front of bits: each field of 01's table behind the one before it.
+-- The header at the front of bits: five indicators, then each field of 01's table behind those before it.
 unfoldable pub headerIn : List Bool → Header
 headerIn x =
     record {
@@ -32,9 +32,9 @@ headerIn x =
       sync = flag 3 x;
       startup = flag 4 x;
       id = record { 0 = field 5 11 x };
-      words = field 16 7 x;
-      checksum = field 23 11 x;
-      cycle = record { 0 = field 34 6 x };
+      words = field (5 + 11) 7 x;
+      checksum = field (5 + 11 + 7) 11 x;
+      cycle = record { 0 = field (5 + 11 + 7 + 11) 6 x };
     }
 
 abbrev pub headerRead : List ℕ → Header
@@ -42,7 +42,7 @@ headerRead bytes = headerIn (bytesBits bytes)
 
 -- The payload: "bytes 5 up to size minus 3".
 abbrev pub payloadRead : List ℕ → List ℕ
-payloadRead bytes = take (length bytes - 8) (drop 5 bytes)
+payloadRead bytes = drop 5 (take (length bytes - 3) bytes)
 
 -- The frame checksum in the three trailer bytes.
 abbrev pub trailerRead : List ℕ → ℕ
@@ -119,3 +119,20 @@ PayloadSays channel bytes payload = payload ≡ partRule (first (refusals channe
 
 abbrev pub PartSays : Reading → List ℕ → List ℕ → Type 0
 PartSays reading bytes payload = payload ≡ partRule (told reading .number) bytes
+
+-- "the payload is handed back as the caller's own bytes, uncopied": the part lies in the slice that was handed in, from its byte 5 on.
+-- An empty part lies at its first byte. A place is a block of memory and an offset in it.
+abbrev pub behind : ℕ → ℕ × ℕ → ℕ × ℕ
+behind offset place = (place .0, offset + place .1)
+
+abbrev pub payloadOffset : ℕ → ℕ
+payloadOffset refusal = ifAccepted refusal 5 0
+
+abbrev pub partOffset : ℕ → List ℕ → ℕ
+partOffset refusal bytes = ifAccepted refusal (cond (tooShort bytes) 0 5) 0
+
+abbrev pub PayloadLies : ℕ → List ℕ → ℕ × ℕ → ℕ × ℕ → Type 0
+PayloadLies channel bytes place at = at ≡ behind (payloadOffset (first (refusals channel bytes))) place
+
+abbrev pub PartLies : Reading → List ℕ → ℕ × ℕ → ℕ × ℕ → Type 0
+PartLies reading bytes place at = at ≡ behind (partOffset (told reading .number) bytes) place

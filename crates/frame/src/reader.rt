@@ -2,8 +2,9 @@
 ghost use mathlib.Core.Path.{_≡_};
 ghost use Prim.Native.Nat.{_≤_};
 ghost use lib.ListN.{length};
+ghost use denote.Ref.{ptr};
 ghost use Rattle.division.specs.Bits.{number as Bits·number, bytesBits};
-ghost use Rattle.frame.specs.Read.{told, ReadSays, ReadOnSays, PartSays, PayloadSays};
+ghost use Rattle.frame.specs.Read.{told, ReadSays, ReadOnSays, PayloadSays, PayloadLies, PartSays, PartLies};
 use crate::header;
 use crate::header::Header;
 use checksum::Channel;
@@ -122,6 +123,7 @@ fn number_of(bytes: &[u8]) -> u64
 // The payload of a frame: the caller's own bytes from 5 up to size minus 3. An empty part where the frame is refused.
 pub fn payload(channel: u8, bytes: &[u8]) -> &[u8]
     ensures { λ r. ⌜ PayloadSays channel (now (bytes .entry)) (now r) ⌝ }
+    ensures { λ r. ⌜ PayloadLies channel (now (bytes .entry)) (ptr (bytes .entry)) (ptr r) ⌝ }
 {
     part(read(channel, bytes), bytes)
 }
@@ -129,6 +131,7 @@ pub fn payload(channel: u8, bytes: &[u8]) -> &[u8]
 // The payload of bytes that have been read already, by what reading answered.
 pub fn part(reading: Reading, bytes: &[u8]) -> &[u8]
     ensures { λ r. ⌜ PartSays reading (now (bytes .entry)) (now r) ⌝ }
+    ensures { λ r. ⌜ PartLies reading (now (bytes .entry)) (ptr (bytes .entry)) (ptr r) ⌝ }
 {
     if reading.number() != 0 {
         return &bytes[0..0];

@@ -41,7 +41,7 @@ pub read-one : ReadOne
 read-one channel bytes r s hr hs = sym (reading-by r) ∙ ap readingBy (hr ∙ sym hs) ∙ reading-by s
 
 pub payload-one : PayloadOne
-payload-one channel bytes p q hp hq = hp ∙ sym hq
+payload-one channel bytes place p q at at′ hp lp hq lq = (hp ∙ sym hq, lp ∙ sym lq)
 
 writingBy : write.Told → Writing
 writingBy t =

@@ -160,6 +160,20 @@ frames-same : (channel : Channel) (x y : List ℕ) (header : Header) (payload : 
     → Frame channel x header payload → Frame channel y header payload → x ≡ y
 frames-same channel x y header payload fx fy = bytes-inj x y (fx .areBytes) (fy .areBytes) (fx .layout ∙ sym (fy .layout))
 
+-- nothing is refused: none of the seven conditions holds
+pub none-of-seven : (channel : ℕ) (fields : Fields) (payload before : List ℕ) → write.refusal channel fields payload before ≡ 0
+    → (notAChannel channel ≡ false) × (notAnId (fields .id .0) ≡ false) × (badPayload payload ≡ false) × (cycleTooHigh (fields .cycle .0) ≡ false)
+    × (startupWithoutSync (fields .startup) (fields .sync) ≡ false) × (fields .reserved ≡ false) × (outputTooShort payload before ≡ false)
+none-of-seven channel fields payload before none =
+    let z1 = first-zero 0 (notAChannel channel) _ none in
+    let z9 = first-zero 8 (notAnId (fields .id .0)) _ (z1 .1) in
+    let z10 = first-zero 9 (badPayload payload) _ (z9 .1) in
+    let z11 = first-zero 10 (cycleTooHigh (fields .cycle .0)) _ (z10 .1) in
+    let z7 = first-zero 6 (startupWithoutSync (fields .startup) (fields .sync)) _ (z11 .1) in
+    let z12 = first-zero 11 (fields .reserved) _ (z7 .1) in
+    let z13 = first-zero 12 (outputTooShort payload before) _ (z12 .1) in
+    (z1 .0, z9 .0, z10 .0, z11 .0, z7 .0, z12 .0, z13 .0)
+
 -- an accepted write: what it says of the fields, and what lies in the output
 module _ (channel : ℕ) (fields : Fields) (payload before after : List ℕ) (size : ℕ)
     (are : AreBytes payload) (says : WriteSays channel fields payload before after (Written size)) where
@@ -184,17 +198,13 @@ module _ (channel : ℕ) (fields : Fields) (payload before after : List ℕ) (si
 
   pub front-frame : FrameOn channel (take size after) (headerOf fields (length payload / 2)) payload
   front-frame =
-      let z1 = first-zero 0 (notAChannel channel) _ none in
-      let z9 = first-zero 8 (notAnId (fields .id .0)) _ (z1 .1) in
-      let z10 = first-zero 9 (badPayload payload) _ (z9 .1) in
-      let z11 = first-zero 10 (cycleTooHigh (fields .cycle .0)) _ (z10 .1) in
-      let z7 = first-zero 6 (startupWithoutSync (fields .startup) (fields .sync)) _ (z11 .1) in
+      let z = none-of-seven channel fields payload before none in
       record {
         on = channelOf channel;
-        named = is-named channel (z1 .0);
+        named = is-named channel (z .0);
         frame =
             subst (λ (x : List ℕ). Frame (channelOf channel) x (headerOf fields (length payload / 2)) payload) (sym front-is)
-            (written-frame (channelOf channel) fields payload are (z9 .0) (z10 .0) (z11 .0) (z7 .0));
+            (written-frame (channelOf channel) fields payload are (z .1) (z .2) (z .3) (z .4));
       }
 
 pub write-gives-frame : WriteGivesFrame

@@ -2,11 +2,11 @@
 use Prim.Native.Nat.{ℕ, _+_, _*_, _-_, _%_, _^_, _<_, _≤_}
 use mathlib.Core.Path.{_≡_, sym, ap, ap₂, _∙_}
 use mathlib.Core.Bool.{Bool}
-use mathlib.Core.List.{List, [], _∷_, _++_}
+use mathlib.Core.List.{List, [], _∷_, _++_, append-assoc}
 use native.Mathlib.Nat.{mod-eq-of-lt, lt-of-lt-of-le, pow-le-pow-right}
 use native.Mathlib.Omega.{arith}
 use lib.ListN.{length, take, drop, length-append, length-take, length-drop, take-append-drop}
-use lib.Seq.{length-take-le, take-all, take-add, drop-drop}
+use lib.Seq.{length-take-le, take-all, take-take, drop-drop}
 use Rattle.division.specs.Bits.{bits, number, bytesBits}
 use Rattle.division.proofs.BitsLaws.{length-bits, number-lt, bits-number}
 use Rattle.division.proofs.BytesLaws.{length-bytes, bytes-append}
@@ -75,24 +75,26 @@ length-trailer bytes h =
     let n : length (drop (length bytes - 3) bytes) ≡ 3 = length-drop (length bytes - 3) bytes ∙ omega arith in
     length-bytes (drop (length bytes - 3) bytes) ∙ ap (λ (k : ℕ). 8 * k) n
 
-pub three-parts : (bytes : List ℕ) → 8 ≤ length bytes
-    → bytesBits bytes ≡ bytesBits (take 5 bytes) ++ (bytesBits (payloadRead bytes) ++ bytesBits (drop (length bytes - 3) bytes))
-three-parts bytes h =
-    let e : 5 + (length bytes - 8) ≡ length bytes - 3 = omega arith in
-    let rest = drop 5 bytes in
-    ap bytesBits (sym (take-append-drop 5 bytes)) ∙ bytes-append (take 5 bytes) rest
-    ∙ ap (λ (x : List Bool). bytesBits (take 5 bytes) ++ x)
-    (ap bytesBits (sym (take-append-drop (length bytes - 8) rest)) ∙ bytes-append (payloadRead bytes) (drop (length bytes - 8) rest)
-    ∙ ap (λ (l : List ℕ). bytesBits (payloadRead bytes) ++ bytesBits l) (drop-drop (length bytes - 8) 5 bytes ∙ ap (λ (k : ℕ). drop k bytes) e))
-
 pub two-parts : (bytes : List ℕ) → 8 ≤ length bytes
     → bytesBits (take (length bytes - 3) bytes) ≡ bytesBits (take 5 bytes) ++ bytesBits (payloadRead bytes)
 two-parts bytes h =
-    let e : length bytes - 3 ≡ 5 + (length bytes - 8) = omega arith in
-    ap bytesBits (ap (λ (k : ℕ). take k bytes) e ∙ take-add 5 (length bytes - 8) bytes) ∙ bytes-append (take 5 bytes) (payloadRead bytes)
+    let start = take (length bytes - 3) bytes in
+    ap bytesBits (sym (take-append-drop 5 start)) ∙ bytes-append (take 5 start) (payloadRead bytes)
+    ∙ ap (λ (l : List ℕ). bytesBits l ++ bytesBits (payloadRead bytes)) (take-take 5 (length bytes - 3) bytes (omega arith))
+
+pub three-parts : (bytes : List ℕ) → 8 ≤ length bytes
+    → bytesBits bytes ≡ bytesBits (take 5 bytes) ++ (bytesBits (payloadRead bytes) ++ bytesBits (drop (length bytes - 3) bytes))
+three-parts bytes h =
+    let end = length bytes - 3 in
+    ap bytesBits (sym (take-append-drop end bytes)) ∙ bytes-append (take end bytes) (drop end bytes)
+    ∙ ap (λ (x : List Bool). x ++ bytesBits (drop end bytes)) (two-parts bytes h)
+    ∙ append-assoc (bytesBits (take 5 bytes)) (bytesBits (payloadRead bytes)) (bytesBits (drop end bytes))
 
 pub length-payload : (bytes : List ℕ) → 8 ≤ length bytes → length (payloadRead bytes) ≡ length bytes - 8
-length-payload bytes h = length-take-le (length bytes - 8) (drop 5 bytes) (omega (arith, length-drop 5 bytes))
+length-payload bytes h =
+    let end = length bytes - 3 in
+    let long : length (take end bytes) ≡ end = length-take-le end bytes (omega arith) in
+    length-drop 5 (take end bytes) ∙ omega arith
 
 pub header-checksum-small : (h : Header) → headerChecksumOf h ≤ 2047
 header-checksum-small h =

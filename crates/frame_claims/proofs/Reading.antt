@@ -49,6 +49,9 @@ cycle-small : (bytes : List ℕ) → headerRead bytes .cycle .0 ≤ 63
 unfolding headerIn
 cycle-small bytes = let small = field-small 34 6 (bytesBits bytes) in omega arith
 
+payload-are-bytes : (bytes : List ℕ) → AreBytes bytes → AreBytes (payloadRead bytes)
+payload-are-bytes bytes are = are-bytes-drop 5 (take (length bytes - 3) bytes) (are-bytes-take (length bytes - 3) bytes are)
+
 -- ---- nothing is refused, so it is a frame
 
 module _ (channel : Channel) (bytes : List ℕ) (are : AreBytes bytes) (none : first (refusalsOn channel bytes) ≡ 0) where
@@ -77,7 +80,7 @@ module _ (channel : Channel) (bytes : List ℕ) (are : AreBytes bytes) (none : f
       let id : 1 ≤ h .id .0 = positive (h .id .0) (eqb-false _ _ (z6 .0)) in
       record {
         areBytes = are;
-        payloadAreBytes = are-bytes-take (length bytes - 8) (drop 5 bytes) (are-bytes-drop 5 bytes are);
+        payloadAreBytes = payload-are-bytes bytes are;
         layout = three-parts bytes long ∙ ap₂ (λ (x y : List Bool). x ++ (middle ++ y)) header trailer;
         checksum = eqb-true _ _ (not-false _ (z4 .0));
         id = (id, id-small bytes);
@@ -123,7 +126,7 @@ module _ (channel : Channel) (bytes : List ℕ) (header : Header) (payload : Lis
 
   pub frame-payload : payloadRead bytes ≡ payload
   frame-payload =
-      bytes-inj (payloadRead bytes) payload (are-bytes-take (length bytes - 8) (drop 5 bytes) (are-bytes-drop 5 bytes (f .areBytes))) (f .payloadAreBytes)
+      bytes-inj (payloadRead bytes) payload (payload-are-bytes bytes (f .areBytes)) (f .payloadAreBytes)
       (parts .1 .0)
 
   trailer-right : trailerRead bytes ≡ frameChecksum channel (take (length bytes - 3) bytes)

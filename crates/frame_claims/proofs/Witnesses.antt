@@ -1,18 +1,18 @@
 -- What each witness shows, from the statements of the entries that it calls.
 use Prim.Native.Nat.{ℕ, zero, suc, _+_, _/_, _≤_}
 use mathlib.Core.Path.{_≡_, refl, sym, ap, _∙_, subst}
-use mathlib.Core.Bool.{Bool, true, false}
-use mathlib.Core.List.{List}
+use mathlib.Core.Bool.{Bool, true, false, false≢true, cond}
+use mathlib.Core.List.{List, []}
 use native.Mathlib.Omega.{arith}
 use borrow.Author.Tests.{ltb-false, eqb-true, eqb-false, eq-eqb}
 use lib.Dec.{eqb}
-use lib.ListN.{length, take}
+use lib.ListN.{length, take, drop}
 use Rattle.refusal.specs.Refusal.{first, ifAccepted}
-use Rattle.refusal.proofs.FirstLaws.{first-zero}
+use Rattle.refusal.proofs.FirstLaws.{if-refused}
 use Rattle.division.specs.Bits.{AreBytes}
 use Rattle.checksum.specs.declared.Channel.{Channel}
 use Rattle.checksum.specs.declared.Channel.the-variants.{A, B}
-use Rattle.checksum.specs.Channel.{notAChannel, channelOf}
+use Rattle.checksum.specs.Channel.{channelOf}
 use Rattle.checksum.proofs.ChannelLaws.{named-is}
 use Rattle.frame.specs.declared.header.Header.{Header}
 use Rattle.frame.specs.declared.header.Fields.{Fields}
@@ -21,16 +21,16 @@ use Rattle.frame.specs.declared.reader.Reading.the-variants.{Accepted}
 use Rattle.frame.specs.declared.writer.Writing.{Writing}
 use Rattle.frame.specs.declared.writer.Writing.the-variants.{Written}
 use Rattle.frame.specs.Layout.{Frame}
-use Rattle.frame.specs.Refusals.{notAnId, badPayload, cycleTooHigh, startupWithoutSync, outputTooShort}
 use Rattle.frame.specs.Read as read
 use Rattle.frame.specs.Read.{headerRead, payloadRead, ReadSays, PayloadSays}
 use Rattle.frame.specs.Write as write
 use Rattle.frame.specs.Write.{headerOf, frameBytes, over, WriteSays}
 use Rattle.frame.proofs.OverLaws.{length-over, length-frame}
-use Rattle.frame_claims.specs.Damage.{ApartIfAccepted}
-use Rattle.frame_claims.specs.Exact.{FrameOn, fieldsOf, AcceptsFrames, Rewritten, Reread, RereadPayload}
+use Rattle.frame_claims.specs.Damage.{BothAccepted}
+use Rattle.frame_claims.specs.Exact.{FrameOn, fieldsOf, AcceptsFrames, PayloadOf, Wrote, Rewritten, Reread, RereadPayload}
 use Rattle.frame_claims.proofs.Answers.{read-one, write-one, written-answer, refused-unchanged}
-use Rattle.frame_claims.proofs.Exact.{given-part, frame-of, frame-none, frame-says, read-exactly, front-frame, written-again, one-channel}
+use Rattle.frame_claims.proofs.Exact.{given-part, frame-of, frame-none, frame-says, read-exactly, none-of-seven, front-frame, rest-is, write-gives-only, written-again, one-channel}
+use Rattle.frame_claims.proofs.FrameLaws.{frame-size}
 use Rattle.frame_claims.proofs.Reading.{frame-payload}
 use Rattle.frame_claims.proofs.Damage.{frames-apart, not-on-both}
 
@@ -56,14 +56,39 @@ never-both bytes r true onA e onB =
     (not-on-both bytes (a .0) (b .0) (a .1) (b .1) (subst (λ (k : Channel). Frame k bytes (a .0) (a .1)) isA (a .2 .frame))
     (subst (λ (k : Channel). Frame k bytes (b .0) (b .1)) isB (b .2 .frame)))
 
+pub not-both : (channel : ℕ) (x y : List ℕ) (r : Bool) → AcceptsFrames channel x r → r ≡ false → BothAccepted channel x y false
+not-both channel x y r onX e =
+    record {
+      accepted = (λ t. absurd (false≢true t), λ f. absurd (false≢true (sym e ∙ onX .1 (f .0))));
+      apart = λ t. absurd (false≢true t);
+    }
+
 pub both-apart : (channel : ℕ) (x y : List ℕ) (r s : Bool) → AcceptsFrames channel x r → r ≡ true → AcceptsFrames channel y s
-    → ApartIfAccepted x y s
-both-apart channel x y r s onX e onY e′ long differ =
-    let a = onX .0 e in
-    let b = onY .0 e′ in
-    let same : b .2 .on ≡ a .2 .on = one-channel channel (b .2 .on) (a .2 .on) (b .2 .named) (a .2 .named) in
-    frames-apart (a .2 .on) x y (a .0) (b .0) (a .1) (b .1) (a .2 .frame)
-    (subst (λ (k : Channel). Frame k y (b .0) (b .1)) same (b .2 .frame)) long differ
+    → BothAccepted channel x y s
+both-apart channel x y r s onX e onY =
+    record {
+      accepted = (λ t. (onX .0 e, onY .0 t), λ f. onY .1 (f .1));
+      apart =
+          λ t long differ.
+          let a = onX .0 e in
+          let b = onY .0 t in
+          let same : b .2 .on ≡ a .2 .on = one-channel channel (b .2 .on) (a .2 .on) (b .2 .named) (a .2 .named) in
+          frames-apart (a .2 .on) x y (a .0) (b .0) (a .1) (b .1) (a .2 .frame)
+          (subst (λ (k : Channel). Frame k y (b .0) (b .1)) same (b .2 .frame)) long differ;
+    }
+
+pub of-frames : (channel : ℕ) (bytes part : List ℕ) → AreBytes bytes → PayloadSays channel bytes part → PayloadOf channel bytes part
+of-frames channel bytes part are gives =
+    record {
+      frame =
+          λ header payload f.
+          given-part channel bytes part (frame-none channel bytes header payload f) gives ∙ frame-payload (f .on) bytes header payload (f .frame);
+      other =
+          λ none.
+          gives
+          ∙ if-refused (first (read.refusals channel bytes)) (payloadRead bytes) []
+          (λ e. none (headerRead bytes, payloadRead bytes, frame-of channel bytes are e));
+    }
 
 -- ---- read, then written
 
@@ -71,46 +96,63 @@ pub not-rewritten : (channel : ℕ) (bytes before : List ℕ) (r : Reading) → 
     → Rewritten channel bytes before before false
 not-rewritten channel bytes before r says refused =
     record {
-      frames =
-          λ header payload f clear room.
-          absurd (refused (ap (λ (t : read.Told). t .number) says ∙ frame-none channel bytes header payload f));
-      others = λ e. refl;
+      exactly = (
+        λ t. absurd (false≢true t),
+        λ f. absurd (refused (ap (λ (t : read.Told). t .number) says ∙ frame-none channel bytes (f .0) (f .1) (f .2))),
+      );
+      output = refl;
     }
 
-pub was-rewritten : (channel : ℕ) (bytes before after part : List ℕ) (r : Reading) (w : Writing)
-    → AreBytes bytes → ReadSays channel bytes r → PayloadSays channel bytes part
-    → WriteSays channel (fieldsOf (read.told r .header)) part before after w
-    → Rewritten channel bytes before after (eqb (write.told w .number) 0)
-was-rewritten channel bytes before after part r w are reads gives writes =
-    record {
-      frames =
-          λ header payload f clear room.
-          let e = read-exactly channel bytes r part are reads gives header payload .1 f in
-          let h : read.told r .header ≡ header = ap (λ (x : Reading). read.told x .header) (e .0) in
-          let same : WriteSays channel (fieldsOf header) payload before after w =
-          subst (λ (x : List ℕ). WriteSays channel (fieldsOf header) x before after w) (e .1)
-          (subst (λ (x : Header). WriteSays channel (fieldsOf x) part before after w) h writes) in
-          let both =
-          write-one channel (fieldsOf header) payload before after (over bytes before) w (Written (length bytes)) same
-          (written-again channel bytes header payload before f clear room) in
-          (ap (λ (x : Writing). eqb (write.told x .number) 0) (both .0), both .1);
-      others =
-          λ e. refused-unchanged channel (fieldsOf (read.told r .header)) part before after w writes (eqb-false (write.told w .number) 0 e);
-    }
+module _ (channel : ℕ) (bytes before after part : List ℕ) (r : Reading) (w : Writing)
+    (are : AreBytes bytes) (reads : ReadSays channel bytes r) (accepted : read.told r .number ≡ 0) (gives : PayloadSays channel bytes part)
+    (writes : WriteSays channel (fieldsOf (read.told r .header)) part before after w) where
+  none-read : first (read.refusals channel bytes) ≡ 0
+  none-read = sym (ap (λ (t : read.Told). t .number) reads) ∙ accepted
+
+  here : FrameOn channel bytes (headerRead bytes) (payloadRead bytes)
+  here = frame-of channel bytes are none-read
+
+  -- the same write, of the header and the payload of a frame that these bytes are
+  same-write : (header : Header) (payload : List ℕ) → FrameOn channel bytes header payload
+      → WriteSays channel (fieldsOf header) payload before after w
+  same-write header payload f =
+      let e = read-exactly channel bytes r part are reads gives header payload .1 f in
+      subst (λ (x : List ℕ). WriteSays channel (fieldsOf header) x before after w) (e .1)
+      (subst (λ (x : Header). WriteSays channel (fieldsOf x) part before after w) (ap (λ (x : Reading). read.told x .header) (e .0)) writes)
+
+  -- where it was written, the reserved bit was 0 and there was room
+  if-written : eqb (write.told w .number) 0 ≡ true → (headerRead bytes .reserved ≡ false) × (length bytes ≤ length before)
+  if-written t =
+      let says = same-write (headerRead bytes) (payloadRead bytes) here in
+      let none : write.refusal channel (fieldsOf (headerRead bytes)) (payloadRead bytes) before ≡ 0 =
+      sym (ap (λ (t : write.Told). t .number) (says .answers)) ∙ eqb-true (write.told w .number) 0 t in
+      let z = none-of-seven channel (fieldsOf (headerRead bytes)) (payloadRead bytes) before none in
+      let room : 8 + length (payloadRead bytes) ≤ length before = ltb-false (length before) (8 + length (payloadRead bytes)) (z .6) in
+      (z .5, omega (arith, frame-size (here .on) bytes (headerRead bytes) (payloadRead bytes) (here .frame), here .frame .payloadLength))
+
+  -- where the reserved bit is 0 and there is room, it was written
+  was-written : (header : Header) (payload : List ℕ) → FrameOn channel bytes header payload → header .reserved ≡ false
+      → length bytes ≤ length before → (w ≡ Written (length bytes)) × (after ≡ over bytes before)
+  was-written header payload f clear room =
+      write-one channel (fieldsOf header) payload before after (over bytes before) w (Written (length bytes)) (same-write header payload f)
+      (written-again channel bytes header payload before f clear room)
+
+  pub was-rewritten : Rewritten channel bytes before after (eqb (write.told w .number) 0)
+  was-rewritten =
+      record {
+        exactly = (
+          λ t. (headerRead bytes, payloadRead bytes, here, if-written t .0, if-written t .1),
+          λ f. ap (λ (x : Writing). eqb (write.told x .number) 0) (was-written (f .0) (f .1) (f .2) (f .3) (f .4) .0),
+        );
+        output = by (eqb (write.told w .number) 0) refl;
+      }
+    where
+      by : (b : Bool) → eqb (write.told w .number) 0 ≡ b → after ≡ cond b (over bytes before) before
+      by true t = was-written (headerRead bytes) (payloadRead bytes) here (if-written t .0) (if-written t .1) .1
+      by false t =
+          refused-unchanged channel (fieldsOf (read.told r .header)) part before after w writes (eqb-false (write.told w .number) 0 t)
 
 -- ---- written, then read
-
--- where nothing is refused there is room
-with-room : (channel : ℕ) (fields : Fields) (payload before : List ℕ) → write.refusal channel fields payload before ≡ 0
-    → outputTooShort payload before ≡ false
-with-room channel fields payload before none =
-    let z1 = first-zero 0 (notAChannel channel) _ none in
-    let z9 = first-zero 8 (notAnId (fields .id .0)) _ (z1 .1) in
-    let z10 = first-zero 9 (badPayload payload) _ (z9 .1) in
-    let z11 = first-zero 10 (cycleTooHigh (fields .cycle .0)) _ (z10 .1) in
-    let z7 = first-zero 6 (startupWithoutSync (fields .startup) (fields .sync)) _ (z11 .1) in
-    let z12 = first-zero 11 (fields .reserved) _ (z7 .1) in
-    first-zero 12 (outputTooShort payload before) _ (z12 .1) .0
 
 -- what was written is within the output
 pub size-within : (channel : ℕ) (fields : Fields) (payload before after : List ℕ) (w : Writing)
@@ -129,7 +171,7 @@ size-within channel fields payload before after w says = by (write.refusal chann
         let size : write.told w .length ≡ 8 + length payload =
         ap (λ (t : write.Told). t .length) (says .answers) ∙ ap (λ (k : ℕ). ifAccepted k (8 + length payload) 0) e in
         let room : 8 + length payload ≤ length before =
-        ltb-false (length before) (8 + length payload) (with-room channel fields payload before e) in
+        ltb-false (length before) (8 + length payload) (none-of-seven channel fields payload before e .6) in
         let kept : length after ≡ length before =
         ap length (says .writes ∙ ap (λ (k : ℕ). ifAccepted k (over frame before) before) e)
         ∙ length-over frame before (omega (arith, length-frame (channelOf channel) fields payload)) in
@@ -158,3 +200,34 @@ module _ (channel : ℕ) (fields : Fields) (payload before after : List ℕ) (w 
       let sent = take (write.told w .length) after in
       let f = front none in
       given-part channel sent part (frame-none channel sent header payload f) gives ∙ frame-payload (f .on) sent header payload (f .frame)
+
+  pub wrote : Wrote channel fields payload before after (write.told w .length)
+  wrote =
+      record {
+        frame = λ none. (headerOf fields (length payload / 2), refl, front none);
+        only =
+            λ none bytes header same f.
+            let size = 8 + length payload in
+            let answer : w ≡ Written size = written-answer channel fields payload before after w says none in
+            write-gives-only channel fields payload before after size are (subst (WriteSays channel fields payload before after) answer says) bytes header same f
+            ∙ ap (λ (x : Writing). take (write.told x .length) after) (sym answer);
+        behind = by (write.refusal channel fields payload before) refl;
+        refused = unchanged;
+      }
+    where
+      unchanged : (write.refusal channel fields payload before ≡ 0 → ⊥) → (write.told w .length ≡ 0) × (after ≡ before)
+      unchanged refused = (
+        ap (λ (t : write.Told). t .length) (says .answers) ∙ if-refused (write.refusal channel fields payload before) (8 + length payload) 0 refused,
+        says .writes
+            ∙ if-refused (write.refusal channel fields payload before) (over (frameBytes (channelOf channel) fields payload) before) before refused,
+      )
+
+      by : (n : ℕ) → write.refusal channel fields payload before ≡ n → drop (write.told w .length) after ≡ drop (write.told w .length) before
+      by (suc n) e =
+          ap (drop (write.told w .length)) (unchanged (λ z. absurd (let q : _≡_ {A = ℕ} (suc n) 0 = sym e ∙ z in omega arith)) .1)
+      by zero e =
+          let size = 8 + length payload in
+          let answer : w ≡ Written size = written-answer channel fields payload before after w says e in
+          ap (λ (x : Writing). drop (write.told x .length) after) answer
+          ∙ rest-is channel fields payload before after size are (subst (WriteSays channel fields payload before after) answer says)
+          ∙ ap (λ (x : Writing). drop (write.told x .length) before) (sym answer)

@@ -9,7 +9,7 @@ use Rattle.frame.specs.declared.header.Fields.{Fields}
 use Rattle.frame.specs.declared.reader.Reading.{Reading}
 use Rattle.frame.specs.declared.writer.Writing.{Writing}
 use Rattle.frame.specs.Read as read
-use Rattle.frame.specs.Read.{ReadSays, PayloadSays}
+use Rattle.frame.specs.Read.{ReadSays, PayloadSays, PayloadLies}
 use Rattle.frame.specs.Write as write
 use Rattle.frame.specs.Write.{WriteSays}
 
@@ -18,8 +18,13 @@ use Rattle.frame.specs.Write.{WriteSays}
 abbrev pub ReadOne : Type 0
 ReadOne = (channel : ℕ) (bytes : List ℕ) (r s : Reading) → ReadSays channel bytes r → ReadSays channel bytes s → r ≡ s
 
+-- The part of a payload, and the place where it lies.
 abbrev pub PayloadOne : Type 0
-PayloadOne = (channel : ℕ) (bytes p q : List ℕ) → PayloadSays channel bytes p → PayloadSays channel bytes q → p ≡ q
+PayloadOne =
+    (channel : ℕ) (bytes : List ℕ) (place : ℕ × ℕ) (p q : List ℕ) (at at′ : ℕ × ℕ)
+    → PayloadSays channel bytes p → PayloadLies channel bytes place at
+    → PayloadSays channel bytes q → PayloadLies channel bytes place at′
+    → (p ≡ q) × (at ≡ at′)
 
 abbrev pub WriteOne : Type 0
 WriteOne =

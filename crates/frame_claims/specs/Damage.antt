@@ -6,6 +6,7 @@ use Prim.Native.Nat.{ℕ, _+_, _%_, _≤_}
 use mathlib.Core.Path.{_≡_}
 use mathlib.Core.Bool.{Bool, true}
 use mathlib.Core.List.{List}
+use mathlib.Core.Logic.{_↔_}
 use lib.ListN.{length}
 use Rattle.division.specs.Bits.{bytesBits}
 use Rattle.division.specs.Differing.{differing, firstDiffering, lastDiffering, DifferWithin}
@@ -13,6 +14,7 @@ use Rattle.checksum.specs.declared.Channel.{Channel}
 use Rattle.checksum.specs.declared.Channel.the-variants.{A, B}
 use Rattle.frame.specs.declared.header.Header.{Header}
 use Rattle.frame.specs.Layout.{Frame}
+use Rattle.frame_claims.specs.Exact.{IsFrame}
 
 -- How two different byte strings of equal length must differ if both are frames on one channel.
 pub record Apart (x y : List ℕ) : Type 0 where
@@ -36,6 +38,10 @@ abbrev pub NotOnBoth : Type 0
 NotOnBoth =
     (bytes : List ℕ) (hA hB : Header) (pA pB : List ℕ) → Frame A bytes hA pA → Frame B bytes hB pB → ⊥
 
--- ---- what the witness `both_accepted` shows: where the answer is yes, two such strings differ as said.
-abbrev pub ApartIfAccepted : List ℕ → List ℕ → Bool → Type 0
-ApartIfAccepted x y r = r ≡ true → length x ≡ length y → (x ≡ y → ⊥) → Apart x y
+-- ---- what the witness shows
+
+-- `both_accepted`: the answer is yes exactly when both strings are frames on the channel, and then, if they are of equal length and
+-- different, they differ as said.
+pub record BothAccepted (channel : ℕ) (x y : List ℕ) (r : Bool) : Type 0 where
+  pub accepted : (r ≡ true) ↔ (IsFrame channel x × IsFrame channel y)
+  pub apart : r ≡ true → length x ≡ length y → (x ≡ y → ⊥) → Apart x y

@@ -2,8 +2,8 @@
 -- a frame, and writing gives exactly the bytes that read back as the same frame.
 use Prim.Native.Nat.{ℕ, _≤_}
 use mathlib.Core.Path.{_≡_}
-use mathlib.Core.Bool.{Bool, true, false}
-use mathlib.Core.List.{List}
+use mathlib.Core.Bool.{Bool, true, false, cond}
+use mathlib.Core.List.{List, []}
 use mathlib.Core.Logic.{_↔_}
 use lib.ListN.{length, take, drop}
 use Rattle.division.specs.Bits.{AreBytes}
@@ -25,6 +25,10 @@ pub record FrameOn (channel : ℕ) (bytes : List ℕ) (header : Header) (payload
   pub on : Channel
   pub named : namedBy channel ≡ Is on
   pub frame : Frame on bytes header payload
+
+-- These bytes are a frame there, with some header and some payload.
+abbrev pub IsFrame : ℕ → List ℕ → Type 0
+IsFrame channel bytes = (header : Header) × (payload : List ℕ) × FrameOn channel bytes header payload
 
 -- The seven fields of a header that are free when it is written.
 abbrev pub fieldsOf : Header → Fields
@@ -92,14 +96,29 @@ WriteThenRead =
 
 -- `accepts`: the answer is yes exactly when the bytes are a frame.
 abbrev pub AcceptsFrames : ℕ → List ℕ → Bool → Type 0
-AcceptsFrames channel bytes r = (r ≡ true) ↔ (header : Header) × (payload : List ℕ) × FrameOn channel bytes header payload
+AcceptsFrames channel bytes r = (r ≡ true) ↔ IsFrame channel bytes
 
--- `rewritten`: a frame whose reserved bit is 0 comes back as it was, where there is room; where it does not, nothing is touched.
+-- `payload_of`: of a frame its payload, and of any other bytes nothing.
+pub record PayloadOf (channel : ℕ) (bytes part : List ℕ) : Type 0 where
+  pub frame : (header : Header) (payload : List ℕ) → FrameOn channel bytes header payload → part ≡ payload
+  pub other : (IsFrame channel bytes → ⊥) → part ≡ []
+
+-- `written`: where nothing is refused, the front of the output, of the size that comes back, is a frame with these fields and this
+-- payload, no other bytes are one, and what stands behind it is as it was. With a refusal the size is 0 and the output as it was.
+pub record Wrote (channel : ℕ) (fields : Fields) (payload before after : List ℕ) (size : ℕ) : Type 0 where
+  pub frame : refusal channel fields payload before ≡ 0
+      → (header : Header) × (fieldsOf header ≡ fields) × FrameOn channel (take size after) header payload
+  pub only : refusal channel fields payload before ≡ 0
+      → (bytes : List ℕ) (header : Header) → fieldsOf header ≡ fields → FrameOn channel bytes header payload → bytes ≡ take size after
+  pub behind : drop size after ≡ drop size before
+  pub refused : (refusal channel fields payload before ≡ 0 → ⊥) → (size ≡ 0) × (after ≡ before)
+
+-- `rewritten`: bytes come back as they were exactly when they are a frame, its reserved bit is 0, and there is room. Otherwise nothing
+-- is touched.
 pub record Rewritten (channel : ℕ) (bytes before after : List ℕ) (r : Bool) : Type 0 where
-  pub frames : (header : Header) (payload : List ℕ) → FrameOn channel bytes header payload
-      → header .reserved ≡ false → length bytes ≤ length before
-      → (r ≡ true) × (after ≡ over bytes before)
-  pub others : r ≡ false → after ≡ before
+  pub exactly : (r ≡ true)
+      ↔ (header : Header) × (payload : List ℕ) × FrameOn channel bytes header payload × (header .reserved ≡ false) × (length bytes ≤ length before)
+  pub output : after ≡ cond r (over bytes before) before
 
 -- `reread`: what was written is read as a header with the same fields.
 abbrev pub Reread : ℕ → Fields → List ℕ → List ℕ → Reading → Type 0

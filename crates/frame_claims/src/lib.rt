@@ -5,8 +5,8 @@ ghost use mathlib.Core.Bool.{false};
 ghost use Rattle.refusal.specs.Refusal.{InOrder};
 ghost use Rattle.frame.specs.Read.{refusals as read·refusals};
 ghost use Rattle.frame.specs.Write.{refusals as write·refusals};
-ghost use Rattle.frame_claims.specs.Damage.{ApartIfAccepted};
-ghost use Rattle.frame_claims.specs.Exact.{fieldsOf, AcceptsFrames, Rewritten, Reread, RereadPayload};
+ghost use Rattle.frame_claims.specs.Damage.{BothAccepted};
+ghost use Rattle.frame_claims.specs.Exact.{fieldsOf, AcceptsFrames, PayloadOf, Wrote, Rewritten, Reread, RereadPayload};
 use frame::Fields;
 use frame::Header;
 use frame::Reading;
@@ -33,6 +33,13 @@ pub fn accepts(channel: u8, bytes: &[u8]) -> bool
     frame::read(channel, bytes).number() == 0
 }
 
+// The payload of a frame, and of any other bytes an empty part.
+pub fn payload_of(channel: u8, bytes: &[u8]) -> &[u8]
+    ensures { λ r. ⌜ PayloadOf channel (now (bytes .entry)) (now r) ⌝ }
+{
+    frame::payload(channel, bytes)
+}
+
 // Whether these bytes are accepted on both channels. They never are.
 pub fn on_both(bytes: &[u8]) -> bool
     ensures { λ r. ⌜ r ≡ false ⌝ }
@@ -45,7 +52,7 @@ pub fn on_both(bytes: &[u8]) -> bool
 
 // Whether both strings are accepted on one channel: then, if they are of equal length and different, they are far apart.
 pub fn both_accepted(channel: u8, x: &[u8], y: &[u8]) -> bool
-    ensures { λ r. ⌜ ApartIfAccepted (now (x .entry)) (now (y .entry)) r ⌝ }
+    ensures { λ r. ⌜ BothAccepted channel (now (x .entry)) (now (y .entry)) r ⌝ }
 {
     if !accepts(channel, x) {
         return false;
@@ -67,6 +74,13 @@ fn fields_of(header: Header) -> Fields
         id,
         cycle,
     }
+}
+
+// Writes a frame, the only one with these fields and this payload, and answers its size; 0 where nothing was written.
+pub fn written(channel: u8, fields: Fields, payload: &[u8], output: &mut [u8]) -> usize
+    ensures { λ r. ⌜ Wrote channel fields (now (payload .entry)) (now (output .entry)) (now (output .exit)) r ⌝ }
+{
+    frame::write(channel, fields, payload, output).length()
 }
 
 // Reads bytes and writes what was read: the same bytes, unless the reserved bit is 1 or there is no room. Whether it was written.

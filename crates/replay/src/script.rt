@@ -12,7 +12,8 @@ pub enum Start {
     End,
 }
 
-// A size or room, 0 bytes where a script error stands in its place.
+// A size or room, 0 bytes where a script error stands in its place. (A struct: the prover keeps the bound on a field past the
+// test, and not that on what an enum holds.)
 pub struct Size {
     pub is_script_error: bool,
     pub bytes: usize,

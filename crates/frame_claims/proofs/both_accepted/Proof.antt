@@ -1,8 +1,7 @@
--- `both_accepted`: two strings that are both accepted are far apart.
-use mathlib.Core.Bool.{true, false, false≢true}
-use borrow.Author.Tests.{not-false}
+-- `both_accepted`: yes exactly where both strings are frames, and then they are far apart.
+use borrow.Author.Tests.{not-true, not-false}
 use denote.Ref.{now}
-use Rattle.frame_claims.proofs.Witnesses.{both-apart}
+use Rattle.frame_claims.proofs.Witnesses.{not-both, both-apart}
 use borrow.Author.Needs.{needs}
 use Rattle.frame_claims.proofs.both_accepted.Statement.{statement}
 use Rattle.frame_claims.proofs.both_accepted.Tie as tie
@@ -14,7 +13,10 @@ accepts-requires : tie.Need-accepts-requires
 accepts-requires c κs = search needs
 
 returns : tie.Need-returns
-returns c e long differ = absurd (false≢true e)
+returns c =
+    let first = c .before in
+    let a = first .before .before .before .args in
+    not-both (a .channel) (now (a .x)) (now (a .y)) (first .accepts .result) (first .accepts .ensures) (not-true (first .accepts .result) (c .if1 .taken))
 
 accepts-requires-2 : tie.Need-accepts-requires-2
 accepts-requires-2 c κs = search needs

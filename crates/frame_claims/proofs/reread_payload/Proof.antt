@@ -47,7 +47,7 @@ returns c =
     let size = c .before .before .before .length in
     let e = sub-zero (size .result) ∙ size .ensures in
     payload-reread (a .channel) (a .fields) (now (a .payload)) (now (a .output)) after (w .write .result) are (w .write .ensures) (now (c .payload .result))
-    (subst (λ (k : ℕ). PayloadSays (a .channel) (take k after) (now (c .payload .result))) e (c .payload .ensures))
+    (subst (λ (k : ℕ). PayloadSays (a .channel) (take k after) (now (c .payload .result))) e (c .payload .ensures .0))
 
 pub reread-payload-spec : {M : Type 1} → statement M
 reread-payload-spec =

@@ -1,11 +1,12 @@
--- `rewritten`: what was read and written again is what it was.
-use mathlib.Core.Path.{sym, ap, _∙_, subst}
+-- `rewritten`: what was read and written again is what it was, and otherwise nothing is touched.
+use mathlib.Core.Path.{_≡_, sym, ap, _∙_, subst}
 use Prim.Native.Nat.{ℕ}
 use lib.Dec.{eqb}
 use denote.Ref.{now}
-use Rattle.frame.specs.declared.header.Fields.{Fields}
-use Rattle.frame.specs.Write.{WriteSays}
 use Rattle.division.specs.Bits.{AreBytes}
+use Rattle.frame.specs.declared.header.Fields.{Fields}
+use Rattle.frame.specs.Read.{told}
+use Rattle.frame.specs.Write.{WriteSays}
 use Rattle.frame_claims.specs.Exact.{fieldsOf, Rewritten}
 use Rattle.frame_claims.proofs.Witnesses.{not-rewritten, was-rewritten}
 use borrow.Author.Needs.{needs}
@@ -62,9 +63,10 @@ returns-2 c =
     let after = w .write .last .1 .1 .1 .0 in
     let part = now (p .payload .result) in
     let fields = w .before .before .«fields-of» .ensures ∙ ap fieldsOf (w .before .before .before .header .ensures) in
-    let are : AreBytes (bytes) = λ i. k .before .before .shared-slice-known .given i .fits in
+    let are : AreBytes bytes = λ i. k .before .before .shared-slice-known .given i .fits in
+    let accepted : told (k .read .result) .number ≡ 0 = sym (p .before .before .number .ensures) ∙ p .before .if1 .left in
     subst (λ (n : ℕ). Rewritten (a .channel) bytes output after (eqb n 0)) (sym (c .number2 .ensures))
-    (was-rewritten (a .channel) bytes output after part (k .read .result) (w .write .result) are (k .read .ensures) (p .payload .ensures)
+    (was-rewritten (a .channel) bytes output after part (k .read .result) (w .write .result) are (k .read .ensures) accepted (p .payload .ensures .0)
     (subst (λ (f : Fields). WriteSays (a .channel) f part output after (w .write .result)) fields (w .write .ensures)))
 
 pub rewritten-spec : {M : Type 1} → statement M

@@ -4,9 +4,13 @@ use Prim.Native.Nat.{ℕ, _-_}
 use mathlib.Core.List.{[]}
 use native.Mathlib.Omega.{arith}
 use lib.ListN.{length, take, drop}
-use denote.Ref.{now}
+use denote.Ref.{now, ptr}
+use borrow.Author.Tests.{lt-ltb, le-ltb}
+use mathlib.Core.Bool.{Bool, true, false, cond}
+use Rattle.frame.specs.Refusals.{tooShort}
+use Rattle.frame.proofs.ReadLaws.{payload-from-5, payload-none}
 use Rattle.refusal.proofs.FirstLaws.{if-accepted, if-refused}
-use Rattle.frame.specs.Read.{payloadRead}
+use Rattle.frame.specs.Read.{told, payloadRead, behind, partOffset}
 use borrow.Author.Needs.{needs}
 use Rattle.frame.proofs.reader.part.Statement.{statement}
 use Rattle.frame.proofs.reader.part.Tie as tie
@@ -28,8 +32,13 @@ part-result-end c = search needs
 
 returns : tie.Need-returns
 returns c =
-    let number = c .before .before .number in
-    sym (if-refused _ (payloadRead (now (c .before .before .before .before .args .bytes))) [] (λ e. c .before .if1 .taken (number .ensures ∙ e)))
+    let a = c .before .before .before .before .args in
+    let bytes = now (a .bytes) in
+    let n = told (a .reading) .number in
+    let refused : n ≡ 0 → ⊥ = λ e. c .before .if1 .taken (c .before .before .number .ensures ∙ e) in (
+      sym (if-refused n (payloadRead bytes) [] refused),
+      ap (λ (k : ℕ). behind k (ptr (a .bytes))) (sym (if-refused n (cond (tooShort bytes) 0 5) 0 refused)),
+    )
 
 sub-result-2 : tie.Need-sub-result-2
 sub-result-2 c = search needs
@@ -42,11 +51,15 @@ part-result-end-2 c = search needs
 
 returns-2 : tie.Need-returns-2
 returns-2 c =
-    let bytes = now (c .before .before .before .before .before .args .bytes) in
-    let number = c .before .before .before .number in
-    let none : length bytes - 8 ≡ 0 = omega arith in
-    ap (λ (k : ℕ). take k (drop 5 bytes)) (sym none)
-    ∙ sym (if-accepted _ (payloadRead bytes) [] (sym (number .ensures) ∙ c .before .before .if1 .left))
+    let a = c .before .before .before .before .before .args in
+    let bytes = now (a .bytes) in
+    let n = told (a .reading) .number in
+    let accepted : n ≡ 0 = sym (c .before .before .before .number .ensures) ∙ c .before .before .if1 .left in
+    let short : tooShort bytes ≡ true = lt-ltb (length bytes) 8 (c .before .if2 .taken) in
+    let offset : partOffset n bytes ≡ 0 = if-accepted n (cond (tooShort bytes) 0 5) 0 accepted ∙ ap (λ (b : Bool). cond b 0 5) short in (
+      payload-none bytes (c .before .if2 .taken) ∙ sym (if-accepted n (payloadRead bytes) [] accepted),
+      ap (λ (k : ℕ). behind k (ptr (a .bytes))) (sym offset),
+    )
 
 sub-end : tie.Need-sub-end
 sub-end c = search needs
@@ -62,11 +75,16 @@ part-result-end-3 c = search needs
 
 returns-3 : tie.Need-returns-3
 returns-3 c =
-    let bytes = now (c .before .before .before .before .before .args .bytes) in
-    let number = c .before .before .before .number in
-    let e : length bytes - 3 - 5 ≡ length bytes - 8 = omega arith in
-    ap (λ (k : ℕ). take k (drop 5 bytes)) e
-    ∙ sym (if-accepted _ (payloadRead bytes) [] (sym (number .ensures) ∙ c .before .before .if1 .left))
+    let a = c .before .before .before .before .before .args in
+    let bytes = now (a .bytes) in
+    let n = told (a .reading) .number in
+    let accepted : n ≡ 0 = sym (c .before .before .before .number .ensures) ∙ c .before .before .if1 .left in
+    let long : tooShort bytes ≡ false = le-ltb (length bytes) 8 (c .before .if2 .left) in
+    let offset : partOffset n bytes ≡ 5 = if-accepted n (cond (tooShort bytes) 0 5) 0 accepted ∙ ap (λ (b : Bool). cond b 0 5) long in
+    let e : length bytes - 3 - 5 ≡ length bytes - 8 = omega arith in (
+      ap (λ (k : ℕ). take k (drop 5 bytes)) e ∙ payload-from-5 bytes (c .before .if2 .left) ∙ sym (if-accepted n (payloadRead bytes) [] accepted),
+      ap (λ (k : ℕ). behind k (ptr (a .bytes))) (sym offset),
+    )
 
 pub part-spec : {M : Type 1} → statement M
 part-spec =

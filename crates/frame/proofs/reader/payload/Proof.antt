@@ -1,7 +1,10 @@
 -- `payload` meets its contract: the part by what `read` answers.
-use mathlib.Core.Path.{_∙_, ap}
-use denote.Ref.{now}
-use Rattle.frame.specs.Read.{Told, partRule}
+use mathlib.Core.Path.{_≡_, _∙_, ap}
+use Prim.Native.Nat.{ℕ}
+use Rattle.refusal.specs.Refusal.{first}
+use Rattle.frame.proofs.ReadLaws.{lies-from-5}
+use denote.Ref.{now, ptr}
+use Rattle.frame.specs.Read.{Told, told, refusals, rule, partRule, behind, partOffset}
 use borrow.Author.Needs.{needs}
 use Rattle.frame.proofs.reader.payload.Statement.{statement}
 use Rattle.frame.proofs.reader.payload.Tie as tie
@@ -19,7 +22,12 @@ part-requires c κs = search needs
 returns : tie.Need-returns
 returns c =
     let bytes = now (c .before .before .before .args .bytes) in
-    c .part .ensures ∙ ap (λ (t : Told). partRule (t .number) bytes) (c .before .read .ensures)
+    let place = ptr (c .before .before .before .args .bytes) in
+    let says : told (c .before .read .result) ≡ rule (first (refusals (c .before .before .before .args .channel) bytes)) bytes = c .before .read .ensures in (
+      c .part .ensures .0 ∙ ap (λ (t : Told). partRule (t .number) bytes) says,
+      c .part .ensures .1 ∙ ap (λ (t : Told). behind (partOffset (t .number) bytes) place) says
+          ∙ ap (λ (k : ℕ). behind k place) (lies-from-5 (c .before .before .before .args .channel) bytes),
+    )
 
 pub payload-spec : {M : Type 1} → statement M
 payload-spec = tie.close (tie.spec read-requires part-requires returns)

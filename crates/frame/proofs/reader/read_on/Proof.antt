@@ -54,8 +54,11 @@ read5 c = read4 (c .before)
 abbrev read6 : tie.Else6 → tie.After-unpacked
 read6 c = read5 (c .before)
 
+abbrev before7 : tie.After-startup-without-sync → tie.Else6
+before7 c = search needs
+
 abbrev read7 : tie.Else7 → tie.After-unpacked
-read7 c = read6 (c .before .before)
+read7 c = read6 (before7 (c .before))
 
 -- the header that was read is the bytes'
 header-is : (c : tie.After-unpacked) → c .unpacked .result ≡ headerRead (in4 c)
@@ -70,7 +73,7 @@ belongs c = c .«checksum-of» .ensures ∙ ap headerChecksumOf (sym (c .before 
 
 -- 7 was tried of its startup and its sync
 tried7 : (c : tie.After-startup-without-sync)
-    → let h = read6 (c .before) .unpacked .result in
+    → let h = read6 (before7 c) .unpacked .result in
     c .«startup-without-sync» .result ≡ startupWithoutSync (h .startup) (h .sync)
 tried7 c = c .«startup-without-sync» .ensures
 
@@ -197,7 +200,7 @@ startup-without-sync-requires c κs = search needs
 
 returns-7 : tie.Need-returns-7
 returns-7 c =
-    let e = c .before .before in
+    let e = before7 (c .before) in
     let set = moved (read6 e) (λ h. startupWithoutSync (h .startup) (h .sync)) ∙ sym (tried7 (c .before)) ∙ c .if7 .taken in
     ap (λ (n : ℕ). rule n (in4 (read6 e)))
     (sym
@@ -241,7 +244,7 @@ returns-8 c =
     let differs : frameChecksumDiffers (channelIn (read7 e)) bytes (trailerRead bytes) ≡ true =
     ap not
     (ne-eqb _ _ (λ q. c .if8 .taken (trailer-is (c .before .before .before) ∙ q ∙ sym (worked-out (c .before))))) in
-    ap (λ (n : ℕ). rule n bytes) (sym (to6 (e .before .before .before) _ ∙ first-skip 6 _ (id-good (e .before .before)) ∙ first-skip 7 _ (startup-good e) ∙ first-here 8 _ differs))
+    ap (λ (n : ℕ). rule n bytes) (sym (to6 (before7 (e .before) .before) _ ∙ first-skip 6 _ (id-good (before7 (e .before))) ∙ first-skip 7 _ (startup-good e) ∙ first-here 8 _ differs))
 
 returns-9 : tie.Need-returns-9
 returns-9 c =
@@ -250,7 +253,7 @@ returns-9 c =
     let same : frameChecksumDiffers (channelIn (read7 e)) bytes (trailerRead bytes) ≡ false =
     ap not (eq-eqb _ _ (sym (trailer-is (c .before .before .before)) ∙ c .if8 .left ∙ worked-out (c .before))) in
     ap (λ (h : Header). record { number = 0; header = h }) (header-is (read7 e))
-    ∙ ap (λ (n : ℕ). rule n bytes) (sym (to6 (e .before .before .before) _ ∙ first-skip 6 _ (id-good (e .before .before)) ∙ first-skip 7 _ (startup-good e) ∙ first-skip 8 _ same ∙ first-end))
+    ∙ ap (λ (n : ℕ). rule n bytes) (sym (to6 (before7 (e .before) .before) _ ∙ first-skip 6 _ (id-good (before7 (e .before))) ∙ first-skip 7 _ (startup-good e) ∙ first-skip 8 _ same ∙ first-end))
 
 pub read-on-spec : {M : Type 1} → statement M
 read-on-spec =

@@ -45,10 +45,10 @@ abbrev named4 : tie.Else4 → tie.After-known-told
 named4 c = named3 (c .before .before)
 
 abbrev sized : tie.Then6 → tie.Else5
-sized c = c .before
+sized c = search needs
 
 abbrev roomy : tie.Else6 → tie.Else5
-roomy c = c .before
+roomy c = search needs
 
 -- a refusal, from the number that the order gives
 refuse : (k : tie.After-known-told) (answer : Writing) (n : ℕ) → told answer ≡ refused (suc n)

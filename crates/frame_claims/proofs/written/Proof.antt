@@ -1,0 +1,36 @@
+-- `written`: what lies at the front of the output is the one frame with these fields and this payload.
+use mathlib.Core.Path.{sym, subst}
+use denote.Ref.{now}
+use Rattle.division.specs.Bits.{AreBytes}
+use Rattle.frame_claims.specs.Exact.{Wrote}
+use Rattle.frame_claims.proofs.Witnesses.{wrote}
+use borrow.Author.Needs.{needs}
+use Rattle.frame_claims.proofs.written.Statement.{statement}
+use Rattle.frame_claims.proofs.written.Tie as tie
+use Rattle.frame_claims.proofs.written.Reads as reads
+use Rattle.frame_claims.proofs.written.Lts as lts
+use Rattle.frame.proofs.writer.Writing.length.Reads as length-reads
+use Rattle.frame.proofs.write.Reads as write-reads
+
+write-requires : tie.Need-write-requires
+write-requires c κs = search needs
+
+length-requires : tie.Need-length-requires
+length-requires c κs = search needs
+
+same-length : tie.Need-same-length
+same-length c = search needs
+
+returns : tie.Need-returns
+returns c =
+    let w = c .before .before .before in
+    let a = w .before .before .before .before .args in
+    let payload = now (a .payload) in
+    let output = now (a .output) in
+    let after = w .write .last .1 .1 .1 .0 in
+    let are : AreBytes payload = λ i. w .before .before .before .shared-slice-known .given i .fits in
+    subst (Wrote (a .channel) (a .fields) payload output after) (sym (c .length .ensures))
+    (wrote (a .channel) (a .fields) payload output after (w .write .result) are (w .write .ensures))
+
+pub written-spec : {M : Type 1} → statement M
+written-spec = tie.close (tie.spec write-requires length-requires same-length returns)
