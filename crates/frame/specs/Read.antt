@@ -120,8 +120,8 @@ PayloadSays channel bytes payload = payload ≡ partRule (first (refusals channe
 abbrev pub PartSays : Reading → List ℕ → List ℕ → Type 0
 PartSays reading bytes payload = payload ≡ partRule (told reading .number) bytes
 
--- "the payload is handed back as the caller's own bytes, uncopied": the part lies in the slice that was handed in, from its byte 5 on.
--- An empty part lies at its first byte. A place is a block of memory and an offset in it.
+-- "the payload is handed back as the caller's own bytes, uncopied": the part lies in the slice that was handed in, from its byte 5 on;
+-- the empty part of a refusal lies at its first byte. A place is a block of memory and an offset in it.
 abbrev pub behind : ℕ → ℕ × ℕ → ℕ × ℕ
 behind offset place = (place .0, offset + place .1)
 

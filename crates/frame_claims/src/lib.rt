@@ -60,6 +60,7 @@ pub fn both_accepted(channel: u8, x: &[u8], y: &[u8]) -> bool
     accepts(channel, y)
 }
 
+// The fields of a header that are free when it is written.
 fn fields_of(header: Header) -> Fields
     ensures { λ r. ⌜ r ≡ fieldsOf header ⌝ }
 {
