@@ -54,6 +54,7 @@ read5 c = read4 (c .before)
 abbrev read6 : tie.Else6 → tie.After-unpacked
 read6 c = read5 (c .before)
 
+-- (found by `search`, so that this holds whatever is handed to the test of 7, and only what was handed is asked)
 abbrev before7 : tie.After-startup-without-sync → tie.Else6
 before7 c = search needs
 

@@ -44,6 +44,7 @@ named3 c = named1 (c .before .before .before .before)
 abbrev named4 : tie.Else4 → tie.After-known-told
 named4 c = named3 (c .before .before)
 
+-- (found by `search`, so that these hold whatever is done between the tests of 12 and 13, and only what it leaves is asked)
 abbrev sized : tie.Then6 → tie.Else5
 sized c = search needs
 
