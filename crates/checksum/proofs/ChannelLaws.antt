@@ -1,6 +1,6 @@
 -- What an entry learns of a channel number from what it names.
 use Prim.Native.Nat.{ℕ}
-use mathlib.Core.Path.{_≡_, refl, ap}
+use mathlib.Core.Path.{_≡_, refl, sym, ap, _∙_}
 use mathlib.Core.Bool.{Bool, true, false, cond}
 use native.Mathlib.Omega.{arith}
 use Rattle.checksum.specs.declared.Channel.{Channel}
@@ -27,3 +27,7 @@ named-not number e = picked-not (notAChannel number) (channelOf number) e
 pub is-named : (number : ℕ) → notAChannel number ≡ false → namedBy number ≡ Is (channelOf number)
 unfolding namedBy
 is-named number e = ap (λ (b : Bool). cond b NotAChannel (Is (channelOf number))) e
+
+-- of one number there is one channel
+pub one-channel : (number : ℕ) (a b : Channel) → namedBy number ≡ Is a → namedBy number ≡ Is b → a ≡ b
+one-channel number a b ea eb = sym (named-is number a ea .1) ∙ named-is number b eb .1

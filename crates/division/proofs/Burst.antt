@@ -6,12 +6,13 @@ use mathlib.Core.Bool.{Bool, true, false}
 use mathlib.Core.List.{List, _++_}
 use native.Mathlib.Omega.{arith}
 use lib.ListN.{length, length-append, take, drop, getD, length-take, length-drop, take-append-drop}
-use lib.Seq.{take-at, getD-take, getD-drop, ext-getD}
+use lib.Seq.{getD-take, getD-drop, ext-getD}
 use Rattle.division.specs.Bits.{bits}
 use Rattle.division.specs.Division.{exor, feed}
 use Rattle.division.specs.Polynomial.{last, EndsInOne}
 use Rattle.division.specs.Word.{EndsInChecksum}
 use Rattle.division.specs.Differing.{firstDiffering, lastDiffering}
+use Rattle.division.proofs.BytesLaws.{append-apart}
 use Rattle.division.proofs.ExorLaws.{length-exor, exor-cancel, exor-zeros, exor-self, zeros, length-zeros}
 use Rattle.division.proofs.BitsLaws.{length-bits, one-width}
 use Rattle.division.proofs.RegisterLaws.{length-feed, feed-append}
@@ -47,7 +48,7 @@ short-inj p r e f lr l w h q =
     (feed-inj p (exor r (e ++ zeros k)) (exor r (f ++ zeros k)) (zeros (length e)) ae af h
     (sym (feed-early p r e k lr le) ∙ q ∙ feed-early p r f k lr lf
     ∙ ap (λ (n : ℕ). feed p (exor r (f ++ zeros k)) (zeros n)) (sym l))) in
-    sym (take-at e (zeros k) (length e) refl) ∙ ap (take (length e)) same ∙ take-at f (zeros k) (length e) (sym l)
+    append-apart e (zeros k) f (zeros k) l same .0
 
 -- with the same before and the same behind
 middle-inj : (p r a e f z : List Bool) → length r ≡ length p → length e ≡ length f → length e ≤ length p → last p ≡ true

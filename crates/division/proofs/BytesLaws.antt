@@ -33,6 +33,12 @@ number-append (b ∷ x) y =
     ap₂ (λ (p n : ℕ). bit b * p + n) (ap (λ (k : ℕ). 2 ^ k) (length-append x y) ∙ pow-add 2 (length x) (length y)) (number-append x y)
     ∙ rw (add-mul, mul-assoc) (omega arith)
 
+-- the number in so many bits is below their power
+pub number-take-lt : (w : ℕ) (x : List Bool) → number (take w x) < 2 ^ w
+number-take-lt w x =
+    let short : length (take w x) ≤ w = rw (length-take w x) (omega arith) in
+    lt-of-lt-of-le (number-lt (take w x)) (pow-le-pow-right {n = 2} (omega arith) short)
+
 -- two strings of one length, and what stands behind each, are told apart
 pub append-apart : {A : Type 0} (s t u v : List A) → length s ≡ length u → s ++ t ≡ u ++ v → (s ≡ u) × (t ≡ v)
 append-apart s t u v n e = (
@@ -110,10 +116,7 @@ pub are-bytes-of : (n : ℕ) (x : List Bool) → AreBytes (bytesOf n x)
 unfolding bytesOf
 are-bytes-of zero x = are-bytes-nil
 are-bytes-of (suc n) x =
-    let short : length (take 8 x) ≤ 8 = rw (length-take 8 x) (omega arith) in
-    are-bytes-cons (number (take 8 x)) (bytesOf n (drop 8 x))
-    (lt-of-lt-of-le (number-lt (take 8 x)) (pow-le-pow-right {n = 2} (omega arith) short))
-    (are-bytes-of n (drop 8 x))
+    are-bytes-cons (number (take 8 x)) (bytesOf n (drop 8 x)) (number-take-lt 8 x) (are-bytes-of n (drop 8 x))
 
 pub bits-bytes-of : (n : ℕ) (x : List Bool) → length x ≡ 8 * n → bytesBits (bytesOf n x) ≡ x
 unfolding bytesOf bytesBits

@@ -100,13 +100,19 @@ header-front x y e =
         ap (λ (z : List Bool). number (take width z)) (drop-append-le place x y (omega arith))
         ∙ ap number (take-append-le width (drop place x) y (rw (length-drop place x) (omega arith)))
 
--- so the first five bytes are the header's
-pub header-five : (bytes : List ℕ) → 5 ≤ length bytes → headerIn (bits 40 (number (bytesBits (take 5 bytes)))) ≡ headerRead bytes
-header-five bytes h =
-    let x = bytesBits (take 5 bytes) in
-    let n : length x ≡ 40 = length-bytes (take 5 bytes) ∙ ap (λ (k : ℕ). 8 * k) (length-take-le 5 bytes h) in
-    ap headerIn (bits-number 40 x n) ∙ sym (header-front x (bytesBits (drop 5 bytes)) n)
-    ∙ ap headerIn (sym (bytes-append (take 5 bytes) (drop 5 bytes)) ∙ ap bytesBits (take-append-drop 5 bytes))
+-- so the header that bytes begin with is that of their first five
+pub length-five : (bytes : List ℕ) → 5 ≤ length bytes → length (bytesBits (take 5 bytes)) ≡ 40
+length-five bytes h = length-bytes (take 5 bytes) ∙ ap (λ (k : ℕ). 8 * k) (length-take-le 5 bytes h)
+
+pub header-of-five : (bytes : List ℕ) → 5 ≤ length bytes → headerRead bytes ≡ headerIn (bytesBits (take 5 bytes))
+header-of-five bytes h =
+    ap headerIn (ap bytesBits (sym (take-append-drop 5 bytes)) ∙ bytes-append (take 5 bytes) (drop 5 bytes))
+    ∙ header-front (bytesBits (take 5 bytes)) (bytesBits (drop 5 bytes)) (length-five bytes h)
+
+-- and of the number that they make
+pub header-of-number : (bytes : List ℕ) → 5 ≤ length bytes → headerIn (bits 40 (number (bytesBits (take 5 bytes)))) ≡ headerRead bytes
+header-of-number bytes h =
+    ap headerIn (bits-number 40 (bytesBits (take 5 bytes)) (length-five bytes h)) ∙ sym (header-of-five bytes h)
 
 -- ---- put in
 

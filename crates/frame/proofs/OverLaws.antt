@@ -1,19 +1,12 @@
 -- Bytes laid over the first of others.
-use Prim.Native.Nat.{ℕ, suc, _+_, _-_, _/_, _<_, _≤_}
+use Prim.Native.Nat.{ℕ, suc, _+_, _-_, _<_, _≤_}
 use mathlib.Core.Path.{_≡_, sym, ap, ap₂, _∙_}
 use mathlib.Core.List.{List, [], _∷_, _++_, append-assoc, append-nil}
-use native.Mathlib.Nat.{add-comm}
 use native.Mathlib.Omega.{arith}
 use lib.ListN.{length, take, drop, set, length-append, length-drop, take-append-drop, drop-of-length-le}
 use lib.Seq.{append-snoc, take-suc-set, drop-set-lt, drop-drop, take-at, drop-at, take-all}
 use borrow.Rule.Slice.PartMut.{postOf, putMid}
-use Rattle.division.specs.Bits.{bits, bytesOf}
-use Rattle.division.proofs.BytesLaws.{length-bytes-of}
-use Rattle.checksum.specs.declared.Channel.{Channel}
-use Rattle.checksum.specs.Checksums.{frameChecksum}
-use Rattle.frame.specs.declared.header.Fields.{Fields}
-use Rattle.frame.specs.Layout.{wholeHeader}
-use Rattle.frame.specs.Write.{over, headerOf, headerAndPayload, frameBytes}
+use Rattle.frame.specs.Write.{over}
 
 -- one byte of them is laid
 pub over-turn : (byte : ℕ) (rest out : List ℕ) (i : ℕ) → i < length out
@@ -62,17 +55,3 @@ lent-end a l bytes end e =
     let none : postOf a (length l - a) l ≡ [] = drop-of-length-le (drop a l) {i = length l - a} (omega (arith, length-drop a l)) in
     ap₂ (λ (x y : List ℕ). take a l ++ (x ++ y)) (e ∙ ap (over bytes) all) none
     ∙ ap (λ (x : List ℕ). take a l ++ x) (append-nil (over bytes (drop a l)))
-
--- header and payload take five bytes and the payload's
-pub length-start : (fields : Fields) (payload : List ℕ) → length (headerAndPayload fields payload) ≡ length payload + 5
-unfolding headerAndPayload
-length-start fields payload =
-    length-append (bytesOf 5 (wholeHeader (headerOf fields (length payload / 2)))) payload
-    ∙ ap (λ (k : ℕ). k + length payload) (length-bytes-of 5 _) ∙ add-comm 5 (length payload)
-
-pub length-frame : (channel : Channel) (fields : Fields) (payload : List ℕ) → length (frameBytes channel fields payload) ≡ 8 + length payload
-unfolding frameBytes
-length-frame channel fields payload =
-    let start = headerAndPayload fields payload in
-    length-append start (bytesOf 3 (bits 24 (frameChecksum channel start)))
-    ∙ ap₂ _+_ (length-start fields payload) (length-bytes-of 3 (bits 24 (frameChecksum channel start))) ∙ omega arith

@@ -1,18 +1,42 @@
--- The statement of `write`, from the number that the order gives.
-use Prim.Native.Nat.{ℕ, suc, _+_, _≤_}
-use mathlib.Core.Path.{_≡_, refl, sym, ap, _∙_}
+-- What `write` writes, and its statement from the number that the order gives.
+use Prim.Native.Nat.{ℕ, suc, _+_, _/_, _≤_}
+use mathlib.Core.Path.{_≡_, refl, sym, ap, ap₂, _∙_}
 use mathlib.Core.Bool.{Bool, true, false, false≢true, _||_}
 use mathlib.Core.List.{List}
+use native.Mathlib.Nat.{add-comm}
+use native.Mathlib.Omega.{arith}
 use borrow.Author.Tests.{ltb-false}
-use lib.ListN.{length}
+use lib.ListN.{length, length-append}
 use Rattle.refusal.specs.Refusal.{ifAccepted}
-use Rattle.division.specs.Bits.{odd}
+use Rattle.division.specs.Bits.{odd, bits, bytesOf}
+use Rattle.division.proofs.BytesLaws.{length-bytes-of}
+use Rattle.checksum.specs.declared.Channel.{Channel}
 use Rattle.checksum.specs.Channel.{channelOf}
+use Rattle.checksum.specs.Checksums.{frameChecksum}
 use Rattle.frame.specs.declared.header.Fields.{Fields}
 use Rattle.frame.specs.declared.writer.Writing.{Writing}
 use Rattle.frame.specs.declared.writer.Writing.the-variants.{Written}
+use Rattle.frame.specs.Layout.{wholeHeader}
 use Rattle.frame.specs.Refusals.{badPayload}
-use Rattle.frame.specs.Write.{frameBytes, over, refused, told, refusal, WriteSays}
+use Rattle.frame.specs.Write.{headerOf, headerAndPayload, frameBytes, over, refused, told, refusal, WriteSays}
+
+-- ---- what is written
+
+-- header and payload take five bytes and the payload's
+pub length-start : (fields : Fields) (payload : List ℕ) → length (headerAndPayload fields payload) ≡ length payload + 5
+unfolding headerAndPayload
+length-start fields payload =
+    length-append (bytesOf 5 (wholeHeader (headerOf fields (length payload / 2)))) payload
+    ∙ ap (λ (k : ℕ). k + length payload) (length-bytes-of 5 _) ∙ add-comm 5 (length payload)
+
+pub length-frame : (channel : Channel) (fields : Fields) (payload : List ℕ) → length (frameBytes channel fields payload) ≡ 8 + length payload
+unfolding frameBytes
+length-frame channel fields payload =
+    let start = headerAndPayload fields payload in
+    length-append start (bytesOf 3 (bits 24 (frameChecksum channel start)))
+    ∙ ap₂ _+_ (length-start fields payload) (length-bytes-of 3 (bits 24 (frameChecksum channel start))) ∙ omega arith
+
+-- ---- what is said
 
 -- neither of two conditions holds
 pub or-first : (a b : Bool) → a || b ≡ false → a ≡ false

@@ -13,10 +13,9 @@ use Rattle.division.specs.Bits.{odd, bits, bytesBits, bytesOf, AreBytes}
 use Rattle.division.proofs.BitsLaws.{length-bits}
 use Rattle.division.proofs.BytesLaws.{bytes-append, bytes-inj, are-bytes-of, are-bytes-append, bits-bytes-of}
 use Rattle.checksum.specs.declared.Channel.{Channel}
-use Rattle.checksum.specs.declared.Named.the-variants.{Is}
-use Rattle.checksum.specs.Channel.{notAChannel, channelOf, namedBy}
+use Rattle.checksum.specs.Channel.{notAChannel, channelOf}
 use Rattle.checksum.specs.Checksums.{frameDivision, frameChecksum}
-use Rattle.checksum.proofs.ChannelLaws.{named-is, is-named}
+use Rattle.checksum.proofs.ChannelLaws.{named-is, is-named, one-channel}
 use Rattle.frame.specs.declared.header.Header.{Header}
 use Rattle.frame.specs.declared.header.Fields.{Fields}
 use Rattle.frame.specs.declared.reader.Reading.the-variants.{Accepted}
@@ -27,8 +26,8 @@ use Rattle.frame.specs.Read as read
 use Rattle.frame.specs.Read.{headerRead, payloadRead, refusalsOn, ReadSays, PayloadSays}
 use Rattle.frame.specs.Write as write
 use Rattle.frame.specs.Write.{headerOf, headerAndPayload, frameBytes, over, WriteSays}
-use Rattle.frame.proofs.OverLaws.{take-over, drop-over, length-frame}
-use Rattle.frame.proofs.WriteLaws.{or-first, or-second, write-refused, write-accepted}
+use Rattle.frame.proofs.OverLaws.{take-over, drop-over}
+use Rattle.frame.proofs.WriteLaws.{length-frame, or-first, or-second, write-refused, write-accepted}
 use Rattle.frame_claims.specs.Exact.{FrameOn, fieldsOf, ReadExactly, WriteGivesFrame, WriteGivesOnly, ReadThenWrite, ReservedNotWritten, WriteThenRead}
 use Rattle.frame_claims.proofs.Answers.{read-one, write-one}
 use Rattle.frame_claims.proofs.FrameLaws.{length-whole, frame-size}
@@ -214,10 +213,6 @@ write-gives-frame channel fields payload before after size are says = (
   front-frame channel fields payload before after size are says,
   rest-is channel fields payload before after size are says,
 )
-
--- of one number there is one channel
-pub one-channel : (channel : ℕ) (a b : Channel) → namedBy channel ≡ Is a → namedBy channel ≡ Is b → a ≡ b
-one-channel channel a b ea eb = sym (named-is channel a ea .1) ∙ named-is channel b eb .1
 
 pub write-gives-only : WriteGivesOnly
 write-gives-only channel fields payload before after size are says bytes header same f =

@@ -3,20 +3,20 @@ use Prim.Native.Nat.{ℕ, _+_, _*_, _-_, _%_, _^_, _<_, _≤_}
 use mathlib.Core.Path.{_≡_, sym, ap, ap₂, _∙_}
 use mathlib.Core.Bool.{Bool}
 use mathlib.Core.List.{List, [], _∷_, _++_, append-assoc}
-use native.Mathlib.Nat.{mod-eq-of-lt, lt-of-lt-of-le, pow-le-pow-right}
+use native.Mathlib.Nat.{mod-eq-of-lt}
 use native.Mathlib.Omega.{arith}
-use lib.ListN.{length, take, drop, length-append, length-take, length-drop, take-append-drop}
+use lib.ListN.{length, take, drop, length-append, length-drop, take-append-drop}
 use lib.Seq.{length-take-le, take-all, take-take, drop-drop}
 use Rattle.division.specs.Bits.{bits, number, bytesBits}
-use Rattle.division.proofs.BitsLaws.{length-bits, number-lt, bits-number}
-use Rattle.division.proofs.BytesLaws.{length-bytes, bytes-append}
+use Rattle.division.proofs.BitsLaws.{length-bits, bits-number}
+use Rattle.division.proofs.BytesLaws.{number-take-lt, length-bytes, bytes-append}
 use Rattle.division.proofs.RegisterLaws.{checksum-lt}
 use Rattle.checksum.specs.declared.Channel.{Channel}
 use Rattle.checksum.specs.Checksums.{headerPolynomial, headerStart, headerBits}
 use Rattle.frame.specs.declared.header.Header.{Header}
 use Rattle.frame.specs.Layout.{wholeHeader, headerChecksumOf, frameChecksumOf, Frame}
-use Rattle.frame.specs.Read.{field, headerIn, headerRead, payloadRead}
-use Rattle.frame.proofs.HeaderLaws.{header-front, whole-fields}
+use Rattle.frame.specs.Read.{field, headerIn, payloadRead}
+use Rattle.frame.proofs.HeaderLaws.{whole-fields}
 
 -- ---- a header and its 40 bits
 
@@ -65,11 +65,6 @@ header-whole (a ∷ b ∷ c ∷ d ∷ f ∷ x) e =
 
 -- ---- bytes in three parts
 
-pub length-five : (bytes : List ℕ) → 8 ≤ length bytes → length (bytesBits (take 5 bytes)) ≡ 40
-length-five bytes h =
-    let n : length (take 5 bytes) ≡ 5 = length-take-le 5 bytes (omega arith) in
-    length-bytes (take 5 bytes) ∙ ap (λ (k : ℕ). 8 * k) n
-
 pub length-trailer : (bytes : List ℕ) → 8 ≤ length bytes → length (bytesBits (drop (length bytes - 3) bytes)) ≡ 24
 length-trailer bytes h =
     let n : length (drop (length bytes - 3) bytes) ≡ 3 = length-drop (length bytes - 3) bytes ∙ omega arith in
@@ -104,17 +99,7 @@ header-checksum-small h =
 
 -- a field is below the power that its width gives
 pub field-small : (place width : ℕ) (x : List Bool) → field place width x < 2 ^ width
-field-small place width x =
-    let y = take width (drop place x) in
-    let short : length y ≤ width = rw (length-take width (drop place x)) (omega arith) in
-    lt-of-lt-of-le (number-lt y) (pow-le-pow-right {n = 2} (omega arith) short)
-
--- the header that bytes begin with is that of their first five
-pub header-of-five : (bytes : List ℕ) → 8 ≤ length bytes → headerRead bytes ≡ headerIn (bytesBits (take 5 bytes))
-header-of-five bytes h =
-    let five = bytesBits (take 5 bytes) in
-    ap headerIn (three-parts bytes h)
-    ∙ header-front five (bytesBits (payloadRead bytes) ++ bytesBits (drop (length bytes - 3) bytes)) (length-five bytes h)
+field-small place width x = number-take-lt width (drop place x)
 
 -- "A frame has 8 + 2 x words bytes"
 pub frame-size : (channel : Channel) (bytes : List ℕ) (header : Header) (payload : List ℕ) → Frame channel bytes header payload

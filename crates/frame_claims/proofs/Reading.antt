@@ -21,7 +21,8 @@ use Rattle.frame.specs.declared.header.Header.{Header}
 use Rattle.frame.specs.Layout.{wholeHeader, frameChecksumOf, Frame}
 use Rattle.frame.specs.Refusals.{tooShort, badSize, headerChecksumDiffers, wordsNotSize, idZero, startupWithoutSync, frameChecksumDiffers}
 use Rattle.frame.specs.Read.{headerIn, headerRead, payloadRead, trailerRead, refusalsOn}
-use Rattle.frame_claims.proofs.FrameLaws.{length-whole, whole-header, header-whole, length-five, length-trailer, three-parts, two-parts, length-payload, header-checksum-small, field-small, header-of-five, frame-size}
+use Rattle.frame.proofs.HeaderLaws.{length-five, header-of-five}
+use Rattle.frame_claims.proofs.FrameLaws.{length-whole, whole-header, header-whole, length-trailer, three-parts, two-parts, length-payload, header-checksum-small, field-small, frame-size}
 
 -- ---- startup only with sync, as a test and in words
 
@@ -71,7 +72,7 @@ module _ (channel : Channel) (bytes : List ℕ) (are : AreBytes bytes) (none : f
       let middle = bytesBits (payloadRead bytes) in
       let last = bytesBits (drop (length bytes - 3) bytes) in
       let header : five ≡ wholeHeader h =
-      sym (header-whole five (length-five bytes long)) ∙ ap wholeHeader (sym (header-of-five bytes long)) in
+      sym (header-whole five (length-five bytes (omega arith))) ∙ ap wholeHeader (sym (header-of-five bytes (omega arith))) in
       let covered : bytesBits (take (length bytes - 3) bytes) ≡ wholeHeader h ++ middle =
       two-parts bytes long ∙ ap (λ (x : List Bool). x ++ middle) header in
       let trailer : last ≡ bits 24 (frameChecksumOf channel h (payloadRead bytes)) =
@@ -111,7 +112,7 @@ module _ (channel : Channel) (bytes : List ℕ) (header : Header) (payload : Lis
       let trailer = bits 24 (frameChecksumOf channel header payload) in
       let first-two =
       append-apart (bytesBits (take 5 bytes)) (middle ++ last) (wholeHeader header) (bytesBits payload ++ trailer)
-      (length-five bytes long ∙ sym (length-whole header)) (sym (three-parts bytes long) ∙ f .layout) in
+      (length-five bytes (omega (arith, long)) ∙ sym (length-whole header)) (sym (three-parts bytes long) ∙ f .layout) in
       let same-length : length (payloadRead bytes) ≡ length payload = omega (arith, size, length-payload bytes long, f .payloadLength) in (
         first-two .0,
         append-apart middle last (bytesBits payload) trailer
@@ -121,7 +122,7 @@ module _ (channel : Channel) (bytes : List ℕ) (header : Header) (payload : Lis
 
   pub frame-header : headerRead bytes ≡ header
   frame-header =
-      header-of-five bytes long ∙ ap headerIn (parts .0)
+      header-of-five bytes (omega (arith, long)) ∙ ap headerIn (parts .0)
       ∙ whole-header header (f .id .1) (f .words) (rw (f .checksum) (header-checksum-small header)) (f .cycle)
 
   pub frame-payload : payloadRead bytes ≡ payload

@@ -13,7 +13,7 @@ use Rattle.division.specs.Bits.{AreBytes}
 use Rattle.checksum.specs.declared.Channel.{Channel}
 use Rattle.checksum.specs.declared.Channel.the-variants.{A, B}
 use Rattle.checksum.specs.Channel.{channelOf}
-use Rattle.checksum.proofs.ChannelLaws.{named-is}
+use Rattle.checksum.proofs.ChannelLaws.{named-is, one-channel}
 use Rattle.frame.specs.declared.header.Header.{Header}
 use Rattle.frame.specs.declared.header.Fields.{Fields}
 use Rattle.frame.specs.declared.reader.Reading.{Reading}
@@ -25,11 +25,12 @@ use Rattle.frame.specs.Read as read
 use Rattle.frame.specs.Read.{headerRead, payloadRead, ReadSays, PayloadSays}
 use Rattle.frame.specs.Write as write
 use Rattle.frame.specs.Write.{headerOf, frameBytes, over, WriteSays}
-use Rattle.frame.proofs.OverLaws.{length-over, length-frame}
+use Rattle.frame.proofs.OverLaws.{length-over}
+use Rattle.frame.proofs.WriteLaws.{length-frame}
 use Rattle.frame_claims.specs.Damage.{BothAccepted}
-use Rattle.frame_claims.specs.Exact.{FrameOn, fieldsOf, AcceptsFrames, PayloadOf, Wrote, Rewritten, Reread, RereadPayload}
+use Rattle.frame_claims.specs.Exact.{FrameOn, fieldsOf, AcceptsFrames, PayloadOf, Wrote, Rewritten, Sent, Reread, RereadPayload}
 use Rattle.frame_claims.proofs.Answers.{read-one, write-one, written-answer, refused-unchanged}
-use Rattle.frame_claims.proofs.Exact.{given-part, frame-of, frame-none, frame-says, read-exactly, none-of-seven, front-frame, rest-is, write-gives-only, written-again, one-channel}
+use Rattle.frame_claims.proofs.Exact.{given-part, frame-of, frame-none, frame-says, read-exactly, none-of-seven, front-frame, rest-is, write-gives-only, written-again}
 use Rattle.frame_claims.proofs.FrameLaws.{frame-size}
 use Rattle.frame_claims.proofs.Reading.{frame-payload}
 use Rattle.frame_claims.proofs.Damage.{frames-apart, not-on-both}
@@ -188,23 +189,13 @@ module _ (channel : ℕ) (fields : Fields) (payload before after : List ℕ) (w 
       subst (λ (x : Writing). FrameOn channel (take (write.told x .length) after) (headerOf fields (length payload / 2)) payload) (sym answer)
       (front-frame channel fields payload before after size are (subst (WriteSays channel fields payload before after) answer says))
 
-  pub was-reread : (r : Reading) → ReadSays channel (take (write.told w .length) after) r → Reread channel fields payload before r
-  was-reread r reads none =
-      let header = headerOf fields (length payload / 2) in
-      let sent = take (write.told w .length) after in
-      (header, read-one channel sent r (Accepted header) reads (frame-says channel sent header payload (front none)), refl)
-
-  pub payload-reread : (part : List ℕ) → PayloadSays channel (take (write.told w .length) after) part → RereadPayload channel fields payload before part
-  payload-reread part gives none =
-      let header = headerOf fields (length payload / 2) in
-      let sent = take (write.told w .length) after in
-      let f = front none in
-      given-part channel sent part (frame-none channel sent header payload f) gives ∙ frame-payload (f .on) sent header payload (f .frame)
+  pub was-sent : Sent channel fields payload before (take (write.told w .length) after)
+  was-sent none = (headerOf fields (length payload / 2), refl, front none)
 
   pub wrote : Wrote channel fields payload before after (write.told w .length)
   wrote =
       record {
-        frame = λ none. (headerOf fields (length payload / 2), refl, front none);
+        frame = was-sent;
         only =
             λ none bytes header same f.
             let size = 8 + length payload in
@@ -231,3 +222,16 @@ module _ (channel : ℕ) (fields : Fields) (payload before after : List ℕ) (w 
           ap (λ (x : Writing). drop (write.told x .length) after) answer
           ∙ rest-is channel fields payload before after size are (subst (WriteSays channel fields payload before after) answer says)
           ∙ ap (λ (x : Writing). drop (write.told x .length) before) (sym answer)
+
+-- what was sent, as it is read
+pub was-reread : (channel : ℕ) (fields : Fields) (payload before bytes : List ℕ) (r : Reading)
+    → Sent channel fields payload before bytes → ReadSays channel bytes r → Reread channel fields payload before r
+was-reread channel fields payload before bytes r sent reads none =
+    let f = sent none in
+    (f .0, read-one channel bytes r (Accepted (f .0)) reads (frame-says channel bytes (f .0) payload (f .2)), f .1)
+
+pub payload-reread : (channel : ℕ) (fields : Fields) (payload before bytes part : List ℕ)
+    → Sent channel fields payload before bytes → PayloadSays channel bytes part → RereadPayload channel fields payload before part
+payload-reread channel fields payload before bytes part sent gives none =
+    let f = sent none in
+    given-part channel bytes part (frame-none channel bytes (f .0) payload (f .2)) gives ∙ frame-payload (f .2 .on) bytes (f .0) payload (f .2 .frame)

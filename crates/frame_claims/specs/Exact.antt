@@ -120,6 +120,12 @@ pub record Rewritten (channel : ℕ) (bytes before after : List ℕ) (r : Bool) 
       ↔ (header : Header) × (payload : List ℕ) × FrameOn channel bytes header payload × (header .reserved ≡ false) × (length bytes ≤ length before)
   pub output : after ≡ cond r (over bytes before) before
 
+-- `sent`, under the next two: what was written is a frame with these fields and this payload.
+abbrev pub Sent : ℕ → Fields → List ℕ → List ℕ → List ℕ → Type 0
+Sent channel fields payload before bytes =
+    refusal channel fields payload before ≡ 0
+    → (header : Header) × (fieldsOf header ≡ fields) × FrameOn channel bytes header payload
+
 -- `reread`: what was written is read as a header with the same fields.
 abbrev pub Reread : ℕ → Fields → List ℕ → List ℕ → Reading → Type 0
 Reread channel fields payload before r =

@@ -6,7 +6,7 @@ ghost use Rattle.refusal.specs.Refusal.{InOrder};
 ghost use Rattle.frame.specs.Read.{refusals as read·refusals};
 ghost use Rattle.frame.specs.Write.{refusals as write·refusals};
 ghost use Rattle.frame_claims.specs.Damage.{BothAccepted};
-ghost use Rattle.frame_claims.specs.Exact.{fieldsOf, AcceptsFrames, PayloadOf, Wrote, Rewritten, Reread, RereadPayload};
+ghost use Rattle.frame_claims.specs.Exact.{fieldsOf, AcceptsFrames, PayloadOf, Wrote, Rewritten, Sent, Reread, RereadPayload};
 use frame::Fields;
 use frame::Header;
 use frame::Reading;
@@ -96,12 +96,20 @@ pub fn rewritten(channel: u8, bytes: &[u8], output: &mut [u8]) -> bool
     frame::write(channel, fields_of(reading.header()), part, output).number() == 0
 }
 
-// Writes a frame and reads it: the same fields.
-pub fn reread(channel: u8, fields: Fields, payload: &[u8], output: &mut [u8]) -> Reading
-    ensures { λ r. ⌜ Reread channel fields (now (payload .entry)) (now (output .entry)) r ⌝ }
+// Writes a frame and gives what was written.
+fn sent<'a>(channel: u8, fields: Fields, payload: &'a [u8], output: &'a mut [u8]) -> &'a [u8]
+    ensures { λ r. ⌜ Sent channel fields (now (payload .entry)) (now (output .entry)) (now r) ⌝ }
 {
     let size = frame::write(channel, fields, payload, output).length();
-    frame::read(channel, &output[0..size])
+    let whole = &output[..];
+    &whole[0..size]
+}
+
+// Writes a frame and reads it: the same fields.
+pub fn reread<'a>(channel: u8, fields: Fields, payload: &'a [u8], output: &'a mut [u8]) -> Reading
+    ensures { λ r. ⌜ Reread channel fields (now (payload .entry)) (now (output .entry)) r ⌝ }
+{
+    frame::read(channel, sent(channel, fields, payload, output))
 }
 
 // Writes a frame and takes its payload: the same bytes.
@@ -113,7 +121,5 @@ pub fn reread_payload<'a>(
 ) -> &'a [u8]
     ensures { λ r. ⌜ RereadPayload channel fields (now (payload .entry)) (now (output .entry)) (now r) ⌝ }
 {
-    let size = frame::write(channel, fields, payload, output).length();
-    let sent = &output[..];
-    frame::payload(channel, &sent[0..size])
+    frame::payload(channel, sent(channel, fields, payload, output))
 }

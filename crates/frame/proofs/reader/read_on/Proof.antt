@@ -19,7 +19,7 @@ use Rattle.frame.specs.declared.header.Header.{Header}
 use Rattle.frame.specs.Layout.{headerChecksumOf}
 use Rattle.frame.specs.Refusals.{tooShort, badSize, headerChecksumDiffers, wordsNotSize, idZero, startupWithoutSync, frameChecksumDiffers}
 use Rattle.frame.specs.Read.{headerIn, headerRead, trailerRead, rule}
-use Rattle.frame.proofs.HeaderLaws.{header-five}
+use Rattle.frame.proofs.HeaderLaws.{header-of-number}
 use borrow.Author.Needs.{needs}
 use Rattle.frame.proofs.reader.read_on.Statement.{statement}
 use Rattle.frame.proofs.reader.read_on.Tie as tie
@@ -63,7 +63,7 @@ read7 c = read6 (before7 (c .before))
 
 -- the header that was read is the bytes'
 header-is : (c : tie.After-unpacked) → c .unpacked .result ≡ headerRead (in4 c)
-header-is c = c .unpacked .ensures ∙ ap (λ (n : ℕ). headerIn (bits 40 n)) (c .before .«number-of» .ensures) ∙ header-five (in4 c) (omega arith)
+header-is c = c .unpacked .ensures ∙ ap (λ (n : ℕ). headerIn (bits 40 n)) (c .before .«number-of» .ensures) ∙ header-of-number (in4 c) (omega arith)
 
 moved : (c : tie.After-unpacked) (f : Header → Bool) → f (headerRead (in4 c)) ≡ f (c .unpacked .result)
 moved c f = ap f (sym (header-is c))

@@ -12,7 +12,8 @@ use Rattle.division.proofs.BytesLaws.{length-bytes-of}
 use Rattle.checksum.specs.Checksums.{frameChecksum}
 use Rattle.frame.specs.Layout.{wholeHeader}
 use Rattle.frame.specs.Write.{headerOf, headerAndPayload, frameBytes, over}
-use Rattle.frame.proofs.OverLaws.{take-over, over-behind, lent-end, length-start}
+use Rattle.frame.proofs.OverLaws.{take-over, over-behind, lent-end}
+use Rattle.frame.proofs.WriteLaws.{length-start}
 use borrow.Author.Needs.{needs}
 use Rattle.frame.proofs.writer.lay.Statement.{statement}
 use Rattle.frame.proofs.writer.lay.Tie as tie
