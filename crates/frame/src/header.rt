@@ -50,6 +50,13 @@ impl Header {
         checksum: 0,
         cycle: Cycle(0),
     };
+
+    // The header checksum that belongs to the other fields, whatever stands in its own.
+    pub fn checksum_due(self) -> u16
+        ensures { λ r. ⌜ r ≡ headerChecksumOf self ⌝ }
+    {
+        checksum_of(packed(self))
+    }
 }
 
 impl Slot {

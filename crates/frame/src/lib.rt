@@ -11,6 +11,7 @@ pub use header::Cycle;
 pub use header::Fields;
 pub use header::Header;
 pub use header::Slot;
+pub use header::startup_without_sync;
 pub use reader::Reading;
 pub use reader::part;
 pub use reader::payload;

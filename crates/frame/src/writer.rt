@@ -115,7 +115,8 @@ fn header_of(fields: Fields, words: u8) -> Header
         checksum: 0,
         cycle,
     };
-    header.checksum = header::checksum_of(header::packed(header));
+    let due = header.checksum_due();
+    header.checksum = due;
     header
 }
 

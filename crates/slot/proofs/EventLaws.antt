@@ -1,0 +1,94 @@
+-- An event, by what was found of it.
+use Prim.Native.Nat.{ℕ}
+use mathlib.Core.Path.{_≡_, refl, sym, ap, _∙_}
+use mathlib.Core.Bool.{Bool, true, false, not, cond}
+use mathlib.Core.List.{List, [], _∷_}
+use native.Mathlib.Omega.{arith}
+use borrow.Author.Tests.{eq-eqb, ne-eqb}
+use denote.Enum.Declared.{tagOf}
+use types.Run.{OneOf, miss}
+use Rattle.refusal.specs.Refusal.{first, ifAccepted}
+use Rattle.refusal.proofs.FirstLaws.{first-skip, first-here, first-end}
+use Rattle.checksum.specs.declared.Channel.{Channel}
+use Rattle.frame.specs.declared.header.Header.{Header}
+use Rattle.frame.proofs.reader.Reading.{the-type}
+use Rattle.frame.specs.declared.reader.Reading.{Reading}
+use Rattle.frame.specs.declared.reader.Reading.the-variants as reading
+use Rattle.frame.specs.Read.{headerRead, refusalsOn, ReadOnSays}
+use Rattle.frame.specs.Read as read
+use Rattle.slot.specs.declared.status.Reason.{Reason}
+use Rattle.slot.specs.declared.status.Reason.the-variants as reason
+use Rattle.slot.specs.declared.status.Kept.{Kept}
+use Rattle.slot.specs.declared.status.Kept.the-variants as kept
+use Rattle.slot.specs.declared.status.Status.{Status}
+use Rattle.slot.specs.declared.events.Recording.the-variants as recording
+use Rattle.slot.specs.Judging.{Place, Event, Brought, arrival, placeOf, isReason, firstMiss, keptBy, firstReason, firstKept, ofArrival, isRefused, brings, after}
+use Rattle.slot.specs.Sound.{sound}
+use Rattle.slot.specs.Entries.{eventRefusals, EventSays}
+
+-- ---- no reason, no frame
+
+pub first-reason-none : (r : Reason) → firstReason r reason.NoReason ≡ r
+first-reason-none reason.NoReason = refl
+first-reason-none reason.OtherId = refl
+first-reason-none reason.OtherCycle = refl
+first-reason-none reason.OtherWords = refl
+first-reason-none reason.SyncOrStartup = refl
+first-reason-none reason.NullFrame = refl
+
+pub first-kept-none : (k : Kept) → firstKept k kept.Nothing ≡ k
+first-kept-none kept.Nothing = refl
+first-kept-none (kept.Frame h) = refl
+
+pub kept-by-reason : (r : Reason) (h : Header) → keptBy r h ≡ cond (isReason r) kept.Nothing (kept.Frame h)
+kept-by-reason reason.NoReason h = refl
+kept-by-reason reason.OtherId h = refl
+kept-by-reason reason.OtherCycle h = refl
+kept-by-reason reason.OtherWords h = refl
+kept-by-reason reason.SyncOrStartup h = refl
+kept-by-reason reason.NullFrame h = refl
+
+-- ---- the reader's answer
+
+-- any case but the first is a refusal
+pub not-accepted : (r : Reading) → OneOf (1 ∷ 2 ∷ 3 ∷ 4 ∷ 5 ∷ 6 ∷ 7 ∷ 8 ∷ []) (tagOf the-type r) → read.told r .number ≡ 0 → ⊥
+not-accepted (reading.Accepted h) k e = miss (1 ∷ 2 ∷ 3 ∷ 4 ∷ 5 ∷ 6 ∷ 7 ∷ 8 ∷ []) 0 tt k
+not-accepted reading.NotAChannel k e = omega arith
+not-accepted reading.TooShort k e = omega arith
+not-accepted reading.BadSize k e = omega arith
+not-accepted reading.HeaderChecksumDiffers k e = omega arith
+not-accepted reading.WordsNotSize k e = omega arith
+not-accepted reading.IdZero k e = omega arith
+not-accepted reading.StartupWithoutSync k e = omega arith
+not-accepted reading.FrameChecksumDiffers k e = omega arith
+
+module _ (p : Place) (bytes : List ℕ) (r : Reading) (says : ReadOnSays (p .channel) bytes r) where
+  number : read.told r .number ≡ first (refusalsOn (p .channel) bytes)
+  number = ap (λ (t : read.Told). t .number) says
+
+  pub brings-refusal : (read.told r .number ≡ 0 → ⊥) → brings p (arrival bytes) ≡ ofArrival true reason.NoReason kept.Nothing
+  brings-refusal refused =
+      let out : isRefused (p .channel) bytes ≡ true = ap not (ne-eqb (first (refusalsOn (p .channel) bytes)) 0 (λ e. refused (number ∙ e))) in
+      rw out
+
+pub brings-frame : (p : Place) (bytes : List ℕ) (h : Header) → ReadOnSays (p .channel) bytes (reading.Accepted h)
+    → brings p (arrival bytes) ≡ ofArrival false (firstMiss p h) (keptBy (firstMiss p h) h)
+brings-frame p bytes h says =
+    let none : first (refusalsOn (p .channel) bytes) ≡ 0 = sym (ap (λ (t : read.Told). t .number) says) in
+    let accepted : isRefused (p .channel) bytes ≡ false = ap not (eq-eqb (first (refusalsOn (p .channel) bytes)) 0 none) in
+    let same : headerRead bytes ≡ h =
+    sym (ap (λ (t : read.Told). t .header) says ∙ ap (λ (n : ℕ). ifAccepted n (headerRead bytes) read.noHeader) none) in
+    rw (accepted, same)
+
+-- ---- the statement
+
+pub event-refused : (s : Status) (e : Event) → sound s ≡ false → EventSays s e (record { answer = recording.NotSound; status = s })
+event-refused s e h =
+    let n : first (eventRefusals s) ≡ 23 = first-here 23 _ (ap not h) in
+    record { answers = sym n; leaves = sym (ap (λ (k : ℕ). ifAccepted k (after s e) s) n) }
+
+pub event-recorded : (s : Status) (e : Event) (t : Status) → sound s ≡ true → t ≡ after s e
+    → EventSays s e (record { answer = recording.Recorded; status = t })
+event-recorded s e t h same =
+    let n : first (eventRefusals s) ≡ 0 = first-skip 23 _ (ap not h) ∙ first-end in
+    record { answers = sym n; leaves = same ∙ sym (ap (λ (k : ℕ). ifAccepted k (after s e) s) n) }

@@ -1,0 +1,31 @@
+-- A dynamic slot asks that sync and startup are clear, a static one does not.
+use mathlib.Core.Path.{_≡_, sym, _∙_}
+use mathlib.Core.Bool.{true, false}
+use Rattle.slot.specs.Judging.{placeOf, isStatic}
+use borrow.Author.Needs.{needs}
+use Rattle.slot.proofs.content.has_sync_or_startup.Statement.{statement}
+use Rattle.slot.proofs.content.has_sync_or_startup.Tie as tie
+use Rattle.slot.proofs.content.has_sync_or_startup.Reads as reads
+use Rattle.slot.proofs.content.has_sync_or_startup.Lts as lts
+use Rattle.slot.proofs.content.is_static.Reads as is-static-reads
+
+is-static-requires : tie.Need-is-static-requires
+is-static-requires c κs = search needs
+
+returns : tie.Need-returns
+returns c =
+    let static : isStatic (placeOf (c .before .before .args .status)) ≡ true = sym (c .before .«is-static» .ensures) ∙ c .if1 .taken in
+    rw static
+
+returns-2 : tie.Need-returns-2
+returns-2 c =
+    let dynamic : isStatic (placeOf (c .before .before .before .args .status)) ≡ false = sym (c .before .before .«is-static» .ensures) ∙ c .before .if1 .left in
+    rw (dynamic, c .if2 .taken)
+
+returns-3 : tie.Need-returns-3
+returns-3 c =
+    let dynamic : isStatic (placeOf (c .before .before .before .args .status)) ≡ false = sym (c .before .before .«is-static» .ensures) ∙ c .before .if1 .left in
+    rw (dynamic, c .if2 .left)
+
+pub has-sync-or-startup-spec : {M : Type 1} → statement M
+has-sync-or-startup-spec = tie.close (tie.spec is-static-requires returns returns-2 returns-3)

@@ -1,0 +1,26 @@
+-- A dynamic slot asks for a frame that is not a null frame, a static one does not.
+use mathlib.Core.Path.{_≡_, sym, _∙_}
+use mathlib.Core.Bool.{true, false}
+use Rattle.slot.specs.Judging.{placeOf, isStatic}
+use borrow.Author.Needs.{needs}
+use Rattle.slot.proofs.content.is_null_frame.Statement.{statement}
+use Rattle.slot.proofs.content.is_null_frame.Tie as tie
+use Rattle.slot.proofs.content.is_null_frame.Reads as reads
+use Rattle.slot.proofs.content.is_null_frame.Lts as lts
+use Rattle.slot.proofs.content.is_static.Reads as is-static-reads
+
+is-static-requires : tie.Need-is-static-requires
+is-static-requires c κs = search needs
+
+returns : tie.Need-returns
+returns c =
+    let static : isStatic (placeOf (c .before .before .args .status)) ≡ true = sym (c .before .«is-static» .ensures) ∙ c .if1 .taken in
+    rw static
+
+returns-2 : tie.Need-returns-2
+returns-2 c =
+    let dynamic : isStatic (placeOf (c .before .before .before .args .status)) ≡ false = sym (c .before .before .«is-static» .ensures) ∙ c .before .if1 .left in
+    rw dynamic
+
+pub is-null-frame-spec : {M : Type 1} → statement M
+is-null-frame-spec = tie.close (tie.spec is-static-requires returns returns-2)

@@ -1,0 +1,42 @@
+-- A sound status comes back with the boundary violation, any other as it was.
+use mathlib.Core.Path.{_≡_, sym, subst, _∙_}
+use mathlib.Core.Bool.{true, false}
+use borrow.Author.Tests.{not-true, not-false}
+use Rattle.slot.specs.Judging.{boundary}
+use Rattle.slot.specs.Sound.{sound}
+use Rattle.slot.specs.Entries.{EventSays}
+use Rattle.slot.proofs.EventLaws.{first-reason-none, first-kept-none, event-refused, event-recorded}
+use borrow.Author.Needs.{needs}
+use Rattle.slot.proofs.events.boundary.Statement.{statement}
+use Rattle.slot.proofs.events.boundary.Tie as tie
+use Rattle.slot.proofs.events.boundary.Reads as reads
+use Rattle.slot.proofs.events.boundary.Lts as lts
+use Rattle.slot.proofs.events.not_sound.Reads as not-sound-reads
+use Rattle.slot.proofs.events.recorded.Reads as recorded-reads
+use Rattle.slot.proofs.sound.is_sound.Reads as is-sound-reads
+
+is-sound-requires : tie.Need-is-sound-requires
+is-sound-requires c κs = search needs
+
+not-sound-requires : tie.Need-not-sound-requires
+not-sound-requires c κs = search needs
+
+returns : tie.Need-returns
+returns c =
+    let s = c .before .before .before .args .status in
+    let unsound : sound s ≡ false = sym (c .before .before .«is-sound» .ensures) ∙ not-true _ (c .before .if1 .taken) in
+    subst (EventSays s boundary) (sym (c .«not-sound» .ensures)) (event-refused s boundary unsound)
+
+recorded-requires : tie.Need-recorded-requires
+recorded-requires c κs = search needs
+
+returns-2 : tie.Need-returns-2
+returns-2 c =
+    let s = c .before .before .before .args .status in
+    let good : sound s ≡ true = sym (c .before .before .«is-sound» .ensures) ∙ not-false _ (c .before .if1 .left) in
+    subst (EventSays s boundary) (sym (c .recorded .ensures))
+    (event-recorded s boundary _ good (rw (first-reason-none (s .reason), first-kept-none (s .kept))))
+
+pub boundary-spec : {M : Type 1} → statement M
+boundary-spec =
+    tie.close (tie.spec is-sound-requires not-sound-requires returns recorded-requires returns-2)

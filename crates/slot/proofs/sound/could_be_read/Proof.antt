@@ -1,0 +1,79 @@
+-- `could_be_read` asks for each range, for sync beside startup, and for the checksum.
+use mathlib.Core.Path.{_≡_, sym, ap, _∙_}
+use mathlib.Core.Bool.{true, false, not}
+use borrow.Author.Tests.{lt-leb, le-leb}
+use lib.Dec.{eqb, leb}
+use Rattle.frame.specs.Refusals.{notAnId, cycleTooHigh, startupWithoutSync}
+use borrow.Author.Needs.{needs}
+use Rattle.slot.proofs.sound.could_be_read.Statement.{statement}
+use Rattle.slot.proofs.sound.could_be_read.Tie as tie
+use Rattle.slot.proofs.sound.could_be_read.Reads as reads
+use Rattle.slot.proofs.sound.could_be_read.Lts as lts
+use Rattle.frame.proofs.header.Cycle.is_too_high.Reads as is-too-high-reads
+use Rattle.frame.proofs.header.Header.checksum_due.Reads as checksum-due-reads
+use Rattle.frame.proofs.header.Slot.is_not_an_id.Reads as is-not-an-id-reads
+use Rattle.frame.proofs.startup_without_sync.Reads as startup-without-sync-reads
+
+an-id : (c : tie.Else1) → notAnId (c .before .before .args .header .id .0) ≡ false
+an-id c = sym (c .before .«is-not-an-id» .ensures) ∙ c .if1 .left
+
+words : (c : tie.Else2) → leb (c .before .before .before .before .args .header .words) 127 ≡ true
+words c = le-leb _ _ (c .if2 .left)
+
+cycle : (c : tie.Else3) → cycleTooHigh (c .before .before .before .before .before .before .args .header .cycle .0) ≡ false
+cycle c = sym (c .before .«is-too-high» .ensures) ∙ c .if3 .left
+
+is-not-an-id-requires : tie.Need-is-not-an-id-requires
+is-not-an-id-requires c κs = search needs
+
+returns : tie.Need-returns
+returns c = rw (sym (c .before .«is-not-an-id» .ensures) ∙ c .if1 .taken)
+
+returns-2 : tie.Need-returns-2
+returns-2 c = rw (an-id (c .before .before), lt-leb _ _ (c .if2 .taken))
+
+is-too-high-requires : tie.Need-is-too-high-requires
+is-too-high-requires c κs = search needs
+
+returns-3 : tie.Need-returns-3
+returns-3 c = rw (an-id (c .before .before .before .before), words (c .before .before), sym (c .before .«is-too-high» .ensures) ∙ c .if3 .taken)
+
+startup-without-sync-requires : tie.Need-startup-without-sync-requires
+startup-without-sync-requires c κs = search needs
+
+returns-4 : tie.Need-returns-4
+returns-4 c =
+    rw (
+      an-id (c .before .before .before .before .before .before),
+      words (c .before .before .before .before),
+      cycle (c .before .before),
+      sym (c .before .«startup-without-sync» .ensures) ∙ c .if4 .taken,
+    )
+
+checksum-due-requires : tie.Need-checksum-due-requires
+checksum-due-requires c κs = search needs
+
+returns-5 : tie.Need-returns-5
+returns-5 c =
+    let h = c .before .before .before .before .before .before .before .before .before .before .args .header in
+    rw (
+      an-id (c .before .before .before .before .before .before .before .before),
+      words (c .before .before .before .before .before .before),
+      cycle (c .before .before .before .before),
+      sym (c .before .before .before .«startup-without-sync» .ensures) ∙ c .before .before .if4 .left,
+      sym (c .before .«checksum-due» .ensures),
+    )
+
+pub could-be-read-spec : {M : Type 1} → statement M
+could-be-read-spec =
+    tie.close
+    (tie.spec
+    is-not-an-id-requires
+    returns
+    returns-2
+    is-too-high-requires
+    returns-3
+    startup-without-sync-requires
+    returns-4
+    checksum-due-requires
+    returns-5)

@@ -1,0 +1,66 @@
+-- `would_open` tries what opening tries, but for the channel, which is one.
+use mathlib.Core.Path.{_≡_, sym, ap, _∙_}
+use mathlib.Core.Bool.{true, false, not}
+use Prim.Native.Nat.{ℕ}
+use lib.Dec.{eqb}
+use Rattle.refusal.proofs.FirstLaws.{first-skip, first-here}
+use Rattle.frame.specs.Refusals.{notAnId, cycleTooHigh}
+use Rattle.slot.specs.Sound.{outOfRange}
+use Rattle.slot.proofs.OpeningLaws.{out-of-range, in-range, is-a-channel, last-line}
+use borrow.Author.Needs.{needs}
+use Rattle.slot.proofs.sound.would_open.Statement.{statement}
+use Rattle.slot.proofs.sound.would_open.Tie as tie
+use Rattle.slot.proofs.sound.would_open.Reads as reads
+use Rattle.slot.proofs.sound.would_open.Lts as lts
+use Rattle.frame.proofs.header.Cycle.is_too_high.Reads as is-too-high-reads
+use Rattle.frame.proofs.header.Slot.is_not_an_id.Reads as is-not-an-id-reads
+use Rattle.settings.proofs.Settings.first_out_of_range.Reads as first-out-of-range-reads
+
+sheet-in-range : (c : tie.Else1) → outOfRange (c .before .before .args .status .settings) ≡ false
+sheet-in-range c =
+    in-range (c .before .before .args .status .settings) (c .before .«first-out-of-range» .result) (c .before .«first-out-of-range» .ensures) (c .if1 .left)
+
+first-out-of-range-requires : tie.Need-first-out-of-range-requires
+first-out-of-range-requires c κs = search needs
+
+returns : tie.Need-returns
+returns c =
+    let s = c .before .before .args .status in
+    let out : outOfRange (s .settings) ≡ true =
+    out-of-range (s .settings) (c .before .«first-out-of-range» .result) (c .before .«first-out-of-range» .ensures) (c .if1 .taken) in
+    sym (ap (λ (n : ℕ). eqb n 0) (first-here 17 _ out))
+
+is-not-an-id-requires : tie.Need-is-not-an-id-requires
+is-not-an-id-requires c κs = search needs
+
+returns-2 : tie.Need-returns-2
+returns-2 c =
+    let s = c .before .before .before .before .args .status in
+    let out : notAnId (s .slot .0) ≡ true = sym (c .before .«is-not-an-id» .ensures) ∙ c .if2 .taken in
+    sym
+    (ap (λ (n : ℕ). eqb n 0)
+    (first-skip 17 _ (sheet-in-range (c .before .before)) ∙ first-skip 1 _ (is-a-channel (s .channel)) ∙ first-here 9 _ out))
+
+is-too-high-requires : tie.Need-is-too-high-requires
+is-too-high-requires c κs = search needs
+
+returns-3 : tie.Need-returns-3
+returns-3 c =
+    let s = c .before .before .before .before .before .args .status in
+    let id : notAnId (s .slot .0) ≡ false = sym (c .before .before .«is-not-an-id» .ensures) ∙ c .before .if2 .left in
+    ap not (c .«is-too-high» .ensures)
+    ∙ sym
+    (ap (λ (n : ℕ). eqb n 0)
+    (first-skip 17 _ (sheet-in-range (c .before .before .before)) ∙ first-skip 1 _ (is-a-channel (s .channel)) ∙ first-skip 9 _ id)
+    ∙ last-line 10 (cycleTooHigh (s .cycle .0)))
+
+pub would-open-spec : {M : Type 1} → statement M
+would-open-spec =
+    tie.close
+    (tie.spec
+    first-out-of-range-requires
+    returns
+    is-not-an-id-requires
+    returns-2
+    is-too-high-requires
+    returns-3)

@@ -1,0 +1,190 @@
+-- The judgement of a slot (01, "Judging a slot"): what one event brings, and what it leaves of a status.
+use Prim.Native.Nat.{ℕ}
+use mathlib.Core.Bool.{Bool, true, false, not, _&&_, _||_, cond}
+use mathlib.Core.List.{List}
+use lib.Dec.{eqb, leb}
+use Rattle.refusal.specs.Refusal.{first}
+use Rattle.checksum.specs.declared.Channel.{Channel}
+use Rattle.checksum.specs.declared.Channel.the-variants.{A}
+use Rattle.frame.specs.declared.header.Slot.{Slot}
+use Rattle.frame.specs.declared.header.Cycle.{Cycle}
+use Rattle.frame.specs.declared.header.Header.{Header}
+use Rattle.frame.specs.Read.{headerRead, refusalsOn}
+use Rattle.settings.specs.declared.Settings.{Settings}
+use Rattle.settings.specs.Sheet.{staticPayloadWords, staticSlots, noSettings}
+use Rattle.slot.specs.declared.status.Reason.{Reason}
+use Rattle.slot.specs.declared.status.Reason.the-variants.{NoReason, OtherId, OtherCycle, OtherWords, SyncOrStartup, NullFrame}
+use Rattle.slot.specs.declared.status.Kept.{Kept}
+use Rattle.slot.specs.declared.status.Kept.the-variants.{Nothing, Frame}
+use Rattle.slot.specs.declared.status.Status.{Status}
+
+-- ---- a slot
+
+-- "A slot is opened with settings, channel, slot and cycle".
+pub record Place : Type 0 where
+  pub settings : Settings
+  pub channel : Channel
+  pub slot : Slot
+  pub cycle : Cycle
+
+-- "static if slot is at most field 11"; any other slot is dynamic.
+abbrev pub isStatic : Place → Bool
+isStatic p = leb (p .slot .0) (staticSlots (p .settings))
+
+abbrev pub isDynamic : Place → Bool
+isDynamic p = not (isStatic p)
+
+-- The status of a slot in which nothing has happened.
+abbrev pub fresh : Place → Status
+fresh p =
+    record {
+      settings = p .settings;
+      channel = p .channel;
+      slot = p .slot;
+      cycle = p .cycle;
+      «syntax_error» = false;
+      «content_error» = false;
+      «boundary_violation» = false;
+      conflict = false;
+      valid = false;
+      «own_sending» = false;
+      reason = NoReason;
+      kept = Nothing;
+    }
+
+-- "all zeros with clear flags": what comes back beside a refused opening.
+abbrev pub noStatus : Status
+noStatus = fresh (record { settings = noSettings; channel = A; slot = record { 0 = 0 }; cycle = record { 0 = 0 } })
+
+abbrev pub placeOf : Status → Place
+placeOf s = record { settings = s .settings; channel = s .channel; slot = s .slot; cycle = s .cycle }
+
+-- ---- a frame
+
+-- Tests (a) to (e), each by what misses it.
+-- (a) "ID equals slot".
+abbrev pub otherId : Place → Header → Bool
+otherId p h = not (eqb (h .id .0) (p .slot .0))
+
+-- (b) "cycle equals cycle".
+abbrev pub otherCycle : Place → Header → Bool
+otherCycle p h = not (eqb (h .cycle .0) (p .cycle .0))
+
+-- (c) "static: words equal field 10".
+abbrev pub otherWords : Place → Header → Bool
+otherWords p h = isStatic p && not (eqb (h .words) (staticPayloadWords (p .settings)))
+
+-- (d) "dynamic: sync and startup clear".
+abbrev pub syncOrStartup : Place → Header → Bool
+syncOrStartup p h = isDynamic p && (h .sync || h .startup)
+
+-- (e) "dynamic: not a null frame". In a null frame the bit is 0.
+abbrev pub nullFrame : Place → Header → Bool
+nullFrame p h = isDynamic p && not (h .«null_frame_bit»)
+
+-- "tested in this order, the first miss giving a content reason".
+abbrev pub firstMiss : Place → Header → Reason
+firstMiss p h =
+    cond (otherId p h) OtherId
+    (cond (otherCycle p h) OtherCycle
+    (cond (otherWords p h) OtherWords (cond (syncOrStartup p h) SyncOrStartup (cond (nullFrame p h) NullFrame NoReason))))
+
+-- "No miss: .. header fields are kept".
+abbrev pub keptBy : Reason → Header → Kept
+keptBy NoReason h = Frame h
+keptBy OtherId h = Nothing
+keptBy OtherCycle h = Nothing
+keptBy OtherWords h = Nothing
+keptBy SyncOrStartup h = Nothing
+keptBy NullFrame h = Nothing
+
+-- ---- an event
+
+-- "arrived bytes, activity at a slot boundary, own sending".
+pub data Event : Type 0 where
+  arrival : List ℕ → Event
+  boundary : Event
+  sending : Event
+
+-- What an event brings.
+pub record Brought : Type 0 where
+  -- Bytes arrived.
+  pub arrived : Bool
+  -- Reading them on the slot's channel refuses them.
+  pub refused : Bool
+  -- The first test that the frame misses, and the header of one that misses none.
+  pub reason : Reason
+  pub kept : Kept
+  -- Activity at a boundary.
+  pub atBoundary : Bool
+  -- Own sending.
+  pub sent : Bool
+
+abbrev pub ofArrival : Bool → Reason → Kept → Brought
+ofArrival refused reason kept =
+    record { arrived = true; refused = refused; reason = reason; kept = kept; atBoundary = false; sent = false }
+
+-- "Each arrival is read on the slot's channel."
+abbrev pub isRefused : Channel → List ℕ → Bool
+isRefused channel bytes = not (eqb (first (refusalsOn channel bytes)) 0)
+
+abbrev pub brings : Place → Event → Brought
+brings p (arrival bytes) =
+    cond (isRefused (p .channel) bytes) (ofArrival true NoReason Nothing)
+    (ofArrival false (firstMiss p (headerRead bytes)) (keptBy (firstMiss p (headerRead bytes)) (headerRead bytes)))
+brings p boundary = record { arrived = false; refused = false; reason = NoReason; kept = Nothing; atBoundary = true; sent = false }
+brings p sending = record { arrived = false; refused = false; reason = NoReason; kept = Nothing; atBoundary = false; sent = true }
+
+-- ---- what it leaves
+
+-- A reason, and not the absence of one.
+abbrev pub isReason : Reason → Bool
+isReason NoReason = false
+isReason OtherId = true
+isReason OtherCycle = true
+isReason OtherWords = true
+isReason SyncOrStartup = true
+isReason NullFrame = true
+
+-- A frame, and not the absence of one.
+abbrev pub isFrame : Kept → Bool
+isFrame Nothing = false
+isFrame (Frame h) = true
+
+-- "keeps the first reason".
+abbrev pub firstReason : Reason → Reason → Reason
+firstReason old new = cond (isReason old) old new
+
+-- "the first such frame's header fields are kept .. later ones change nothing".
+abbrev pub firstKept : Kept → Kept → Kept
+firstKept old new = cond (isFrame old) old new
+
+-- An arrival has set one of these: an arrival is refused, misses a test, or misses none.
+abbrev pub hasArrival : Status → Bool
+hasArrival s = s .«syntax_error» || (s .«content_error» || s .valid)
+
+-- "Flags never clear within a slot": each stands if the event sets it or if it stood before.
+abbrev pub with : Status → Brought → Status
+with s b =
+    record {
+      settings = s .settings;
+      channel = s .channel;
+      slot = s .slot;
+      cycle = s .cycle;
+      -- "A read refusal sets "syntax error"."
+      «syntax_error» = b .refused || s .«syntax_error»;
+      -- "A miss sets "content error"".
+      «content_error» = isReason (b .reason) || s .«content_error»;
+      -- "Boundary activity sets "boundary violation"."
+      «boundary_violation» = b .atBoundary || s .«boundary_violation»;
+      -- ""Conflict" is set once own sending and any arrival have both occurred, in either order."
+      conflict = b .arrived && s .«own_sending» || (b .sent && hasArrival s || s .conflict);
+      -- "No miss: .. "valid" set".
+      valid = isFrame (b .kept) || s .valid;
+      «own_sending» = b .sent || s .«own_sending»;
+      reason = firstReason (s .reason) (b .reason);
+      kept = firstKept (s .kept) (b .kept);
+    }
+
+abbrev pub after : Status → Event → Status
+after s e = with s (brings (placeOf s) e)

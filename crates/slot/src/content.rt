@@ -1,0 +1,79 @@
+// Tests (a) to (e), by which a frame is right or wrong for its slot.
+ghost use mathlib.Core.Path.{_≡_};
+ghost use Rattle.slot.specs.Judging.{placeOf, isStatic, otherWords, syncOrStartup, nullFrame, firstMiss, keptBy};
+use crate::status::Kept;
+use crate::status::Reason;
+use crate::status::Status;
+use frame::Header;
+
+// Whether the slot is static, by the settings that it was opened with. Any other is dynamic.
+pub fn is_static(status: Status) -> bool
+    ensures { λ r. ⌜ r ≡ isStatic (placeOf status) ⌝ }
+{
+    status.slot.0 as u32 <= status.settings.static_slots()
+}
+
+// The first test that a frame misses. They come in 01's order: which is the first is part of the answer.
+pub fn first_miss(status: Status, header: Header) -> Reason
+    ensures { λ r. ⌜ r ≡ firstMiss (placeOf status) header ⌝ }
+{
+    if header.id.0 != status.slot.0 {
+        return Reason::OtherId;
+    }
+    if header.cycle.0 != status.cycle.0 {
+        return Reason::OtherCycle;
+    }
+    if has_other_words(status, header) {
+        return Reason::OtherWords;
+    }
+    if has_sync_or_startup(status, header) {
+        return Reason::SyncOrStartup;
+    }
+    if is_null_frame(status, header) {
+        return Reason::NullFrame;
+    }
+    Reason::NoReason
+}
+
+// Misses (c), which is for static slots.
+fn has_other_words(status: Status, header: Header) -> bool
+    ensures { λ r. ⌜ r ≡ otherWords (placeOf status) header ⌝ }
+{
+    if !is_static(status) {
+        return false;
+    }
+    header.words as u32 != status.settings.static_payload_words()
+}
+
+// Misses (d), which is for dynamic slots.
+fn has_sync_or_startup(status: Status, header: Header) -> bool
+    ensures { λ r. ⌜ r ≡ syncOrStartup (placeOf status) header ⌝ }
+{
+    if is_static(status) {
+        return false;
+    }
+    if header.sync {
+        return true;
+    }
+    header.startup
+}
+
+// Misses (e), which is for dynamic slots.
+fn is_null_frame(status: Status, header: Header) -> bool
+    ensures { λ r. ⌜ r ≡ nullFrame (placeOf status) header ⌝ }
+{
+    if is_static(status) {
+        return false;
+    }
+    !header.null_frame_bit
+}
+
+// The frame to keep: one that missed no test.
+pub fn kept_by(reason: Reason, header: Header) -> Kept
+    ensures { λ r. ⌜ r ≡ keptBy reason header ⌝ }
+{
+    if reason.is_reason() {
+        return Kept::Nothing;
+    }
+    Kept::Frame(header)
+}

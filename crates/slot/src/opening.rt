@@ -1,0 +1,85 @@
+// A slot opened.
+ghost use mathlib.Core.Path.{_≡_};
+ghost use Rattle.slot.specs.Judging.{noStatus};
+ghost use Rattle.slot.specs.Entries.{told, OpenSays};
+use crate::status::Status;
+use checksum::Channel;
+use checksum::Named;
+use frame::Cycle;
+use frame::Slot;
+use settings::Settings;
+
+// What opening a slot answers: that it is open, or why it is not.
+pub enum Opening {
+    Opened,
+    // With the number of the first field out of range.
+    SettingOutOfRange(u8),
+    NotAChannel,
+    NotASlot,
+    CycleTooHigh,
+}
+
+impl Opening {
+    // 01's number: 0, or that of the refusal.
+    pub fn number(self) -> u8
+        ensures { λ r. ⌜ r ≡ told self .number ⌝ }
+    {
+        match self {
+            Opening::Opened => 0,
+            Opening::SettingOutOfRange(_) => 17,
+            Opening::NotAChannel => 1,
+            Opening::NotASlot => 9,
+            Opening::CycleTooHigh => 11,
+        }
+    }
+
+    // The number of the first field out of range, 0 unless that is the refusal.
+    pub fn field(self) -> u8
+        ensures { λ r. ⌜ r ≡ told self .field ⌝ }
+    {
+        match self {
+            Opening::Opened => 0,
+            Opening::SettingOutOfRange(field) => field,
+            Opening::NotAChannel => 0,
+            Opening::NotASlot => 0,
+            Opening::CycleTooHigh => 0,
+        }
+    }
+}
+
+pub struct Opened {
+    pub answer: Opening,
+    pub status: Status,
+}
+
+// Opens a slot. The tests come in 01's order; with a refusal the status is all zeros.
+pub fn open_slot(settings: Settings, channel: u8, slot: Slot, cycle: Cycle) -> Opened
+    ensures { λ r. ⌜ OpenSays settings channel slot cycle r ⌝ }
+{
+    let field = settings.first_out_of_range();
+    if field != 0 {
+        return refused(Opening::SettingOutOfRange(field));
+    }
+    let Named::Is(named) = Channel::named(channel) else {
+        return refused(Opening::NotAChannel);
+    };
+    if slot.is_not_an_id() {
+        return refused(Opening::NotASlot);
+    }
+    if cycle.is_too_high() {
+        return refused(Opening::CycleTooHigh);
+    }
+    Opened {
+        answer: Opening::Opened,
+        status: Status::fresh(settings, named, slot, cycle),
+    }
+}
+
+fn refused(answer: Opening) -> Opened
+    ensures { λ r. ⌜ r ≡ record { answer = answer; status = noStatus } ⌝ }
+{
+    Opened {
+        answer,
+        status: Status::none(),
+    }
+}

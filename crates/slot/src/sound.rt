@@ -1,0 +1,96 @@
+// Whether a status could be one of ours: a host hands them in.
+ghost use mathlib.Core.Path.{_≡_};
+ghost use mathlib.Core.Bool.{_&&_};
+ghost use Rattle.slot.specs.Judging.{placeOf};
+ghost use Rattle.slot.specs.Sound.{wouldOpen, couldBeRead, keepsWell, exactlyWith, sound};
+use crate::content;
+use crate::status::Kept;
+use crate::status::Status;
+use frame::Header;
+
+// Soundness as 01 writes it, clause by clause. It is no stricter: refusal 23 is given exactly where a status is not sound.
+pub fn is_sound(status: Status) -> bool
+    ensures { λ r. ⌜ r ≡ sound status ⌝ }
+{
+    let reason = status.reason;
+    let kept = status.kept;
+    if !would_open(status) {
+        return false;
+    }
+    if !exactly_with(status.content_error, reason.is_reason()) {
+        return false;
+    }
+    if !exactly_with(status.valid, kept.is_frame()) {
+        return false;
+    }
+    if !keeps_well(status, kept) {
+        return false;
+    }
+    exactly_with(
+        status.conflict,
+        both(status.own_sending, status.has_arrival()),
+    )
+}
+
+// Whether its settings, slot and cycle would open a slot. Its channel would: it is one.
+fn would_open(status: Status) -> bool
+    ensures { λ r. ⌜ r ≡ wouldOpen (placeOf status) ⌝ }
+{
+    if status.settings.first_out_of_range() != 0 {
+        return false;
+    }
+    if status.slot.is_not_an_id() {
+        return false;
+    }
+    !status.cycle.is_too_high()
+}
+
+// Whether a kept frame is one that a read could give and passes (a) to (e).
+fn keeps_well(status: Status, kept: Kept) -> bool
+    ensures { λ r. ⌜ r ≡ keepsWell (placeOf status) kept ⌝ }
+{
+    let Kept::Frame(header) = kept else {
+        return true;
+    };
+    if !could_be_read(header) {
+        return false;
+    }
+    !content::first_miss(status, header).is_reason()
+}
+
+// Whether a read could give this header.
+fn could_be_read(header: Header) -> bool
+    ensures { λ r. ⌜ r ≡ couldBeRead header ⌝ }
+{
+    if header.id.is_not_an_id() {
+        return false;
+    }
+    if 127 < header.words {
+        return false;
+    }
+    if header.cycle.is_too_high() {
+        return false;
+    }
+    if frame::startup_without_sync(header.startup, header.sync) {
+        return false;
+    }
+    header.checksum == header.checksum_due()
+}
+
+fn exactly_with(a: bool, b: bool) -> bool
+    ensures { λ r. ⌜ r ≡ exactlyWith a b ⌝ }
+{
+    if a {
+        return b;
+    }
+    !b
+}
+
+fn both(a: bool, b: bool) -> bool
+    ensures { λ r. ⌜ r ≡ a && b ⌝ }
+{
+    if a {
+        return b;
+    }
+    false
+}
