@@ -38,15 +38,15 @@ with-only false sync h = refl
 
 -- ---- what a field can hold
 
-id-small : (bytes : List ℕ) → headerRead bytes .id .0 ≤ 2047
+pub id-small : (bytes : List ℕ) → headerRead bytes .id .0 ≤ 2047
 unfolding headerIn
 id-small bytes = let small = field-small 5 11 (bytesBits bytes) in omega arith
 
-words-small : (bytes : List ℕ) → headerRead bytes .words ≤ 127
+pub words-small : (bytes : List ℕ) → headerRead bytes .words ≤ 127
 unfolding headerIn
 words-small bytes = let small = field-small 16 7 (bytesBits bytes) in omega arith
 
-cycle-small : (bytes : List ℕ) → headerRead bytes .cycle .0 ≤ 63
+pub cycle-small : (bytes : List ℕ) → headerRead bytes .cycle .0 ≤ 63
 unfolding headerIn
 cycle-small bytes = let small = field-small 34 6 (bytesBits bytes) in omega arith
 

@@ -1,0 +1,8 @@
+pub mod Truth
+pub mod Answers
+pub mod Sheet
+pub mod Sound
+pub mod EventsLaws
+pub mod Brings
+pub mod Histories
+pub mod Witnesses

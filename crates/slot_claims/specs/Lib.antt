@@ -1,0 +1,5 @@
+pub mod Answers
+pub mod Sheet
+pub mod Sound
+pub mod Histories
+pub mod Witnesses

@@ -1,0 +1,61 @@
+-- Claims about soundness. 01: "A slot status is sound if its settings, channel, slot and cycle would open a slot, a content reason stands
+-- exactly with "content error", a frame is kept exactly with "valid", is one that a read could give and passes (a) to (e), and
+-- "conflict" stands exactly when own sending is recorded and one of "syntax error", "content error" and "valid" stands", and "Every accepted
+-- call returns a sound state."
+use Prim.Native.Nat.{ℕ}
+use mathlib.Core.Path.{_≡_}
+use mathlib.Core.Bool.{Bool, true, false}
+use mathlib.Core.List.{List}
+use mathlib.Core.Logic.{_⊎_, _↔_}
+use Rattle.refusal.specs.Refusal.{first}
+use Rattle.division.specs.Bits.{AreBytes}
+use Rattle.checksum.specs.declared.Channel.{Channel}
+use Rattle.frame.specs.declared.header.Slot.{Slot}
+use Rattle.frame.specs.declared.header.Cycle.{Cycle}
+use Rattle.frame.specs.declared.header.Header.{Header}
+use Rattle.frame.specs.declared.reader.Reading.the-variants.{Accepted}
+use Rattle.frame.specs.Read.{ReadOnSays}
+use Rattle.settings.specs.declared.Settings.{Settings}
+use Rattle.slot.specs.declared.status.Reason.the-variants.{NoReason}
+use Rattle.slot.specs.declared.status.Kept.the-variants.{Frame}
+use Rattle.slot.specs.declared.status.Status.{Status}
+use Rattle.slot.specs.declared.opening.Opened.{Opened}
+use Rattle.slot.specs.declared.events.Judged.{Judged}
+use Rattle.slot.specs.Judging.{Event, placeOf, firstMiss, noStatus}
+use Rattle.slot.specs.Sound.{openingRefusals, numberOf, couldBeRead, sound}
+use Rattle.slot.specs.Entries.{told, OpenSays, eventTold, EventSays}
+
+-- Some byte string is accepted with this header on this channel.
+abbrev pub Readable : Channel → Header → Type 0
+Readable channel header = (bytes : List ℕ) × AreBytes bytes × ReadOnSays channel bytes (Accepted header)
+
+-- 01's sentence in words.
+pub record SoundStatus (s : Status) : Type 0 where
+  pub opens : first (openingRefusals (s .settings) (numberOf (s .channel)) (s .slot) (s .cycle)) ≡ 0
+  pub reason : (s .«content_error» ≡ true) ↔ (s .reason ≡ NoReason → ⊥)
+  pub valid : (s .valid ≡ true) ↔ ((h : Header) × (s .kept ≡ Frame h))
+  pub kept : (h : Header) → s .kept ≡ Frame h → Readable (s .channel) h × (firstMiss (placeOf s) h ≡ NoReason)
+  pub conflict : (s .conflict ≡ true)
+      ↔ (s .«own_sending» ≡ true) × ((s .«syntax_error» ≡ true) ⊎ ((s .«content_error» ≡ true) ⊎ (s .valid ≡ true)))
+
+-- A header passes "one that a read could give" exactly when some byte string is accepted with it, on either channel.
+abbrev pub CouldBeReadExactly : Type 0
+CouldBeReadExactly = (channel : Channel) (h : Header) → (couldBeRead h ≡ true) ↔ Readable channel h
+
+-- The rule is the sentence: no stronger and no weaker.
+abbrev pub SoundExactly : Type 0
+SoundExactly = (s : Status) → (sound s ≡ true) ↔ SoundStatus s
+
+-- "all zeros with clear flags, which isn't sound".
+abbrev pub NoStatusUnsound : Type 0
+NoStatusUnsound = sound noStatus ≡ false
+
+-- "Every accepted call returns a sound state."
+abbrev pub OpenedSound : Type 0
+OpenedSound =
+    (settings : Settings) (channel : ℕ) (slot : Slot) (cycle : Cycle) (r : Opened) → OpenSays settings channel slot cycle r
+    → told (r .answer) .number ≡ 0 → sound (r .status) ≡ true
+
+abbrev pub EventSound : Type 0
+EventSound =
+    (status : Status) (e : Event) (r : Judged) → EventSays status e r → eventTold (r .answer) ≡ 0 → sound (r .status) ≡ true
