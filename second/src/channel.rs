@@ -2,8 +2,10 @@
 
 use crate::refusal::Refusal;
 
-#[derive(Clone, Copy, Debug, PartialEq, Eq, PartialOrd, Ord)]
+/// A is the default, being number 0: it stands in a state of all zeros.
+#[derive(Clone, Copy, Debug, Default, PartialEq, Eq, PartialOrd, Ord)]
 pub enum Channel {
+    #[default]
     A,
     B,
 }

@@ -40,6 +40,11 @@ impl Draft {
         Draft { indicators: Indicators { reserved: false, ..self.indicators }, ..self }
     }
 
+    /// The same frame with another number of words, and a payload of that size.
+    pub fn with_words(self, random: &mut Random, words: u8) -> Draft {
+        Draft { words, payload: random.bytes(2 * usize::from(words)), ..self }
+    }
+
     pub fn fields(&self) -> Fields {
         let fields = Fields {
             indicators: self.indicators,

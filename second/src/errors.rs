@@ -1,6 +1,9 @@
 //! Small scripts for every kind of script error, each with the lines written by hand.
 
-use crate::script::{Command, Write, LIMIT};
+use crate::channel::Channel;
+use crate::script::{Command, Opening, Write, LIMIT};
+use crate::settings::Settings;
+use crate::status_numbers::{HeaderNumbers, StatusNumbers};
 
 pub struct Small {
     pub script: Vec<u8>,
@@ -12,12 +15,37 @@ const FRAME: [u8; 8] = [0x20, 0x01, 0x01, 0xA7, 0xC0, 0xD0, 0x5E, 0xEA];
 
 const TOO_LARGE: [u16; 3] = [601, 1024, 65535];
 
+/// In range, and slot 1 is static with them.
+const SETTINGS: Settings = Settings { fields: [1, 2, 3, 4, 5, 6, 7, 8, 9, 0, 11], sends_sync: true };
+
+const OPENING: Opening = Opening { settings: SETTINGS, channel: 0, slot: 1, cycle: 0 };
+
+/// A status in which the frame above is kept.
+const STATUS: StatusNumbers = StatusNumbers {
+    settings: SETTINGS,
+    channel: Channel::A,
+    slot: 1,
+    cycle: 0,
+    marks: 16,
+    reason: 0,
+    kept: true,
+    header: HeaderNumbers { flags: 0b00100, id: 1, words: 0, checksum: 0x69F, cycle: 0 },
+};
+
+const STATUS_LINE: &str = "status 1 2 3 4 5 6 7 8 9 0 11 1 0 1 0 16 0 1 4 1 0 1695 0\n";
+
+/// The line that shows the status of all zeros.
+const ZEROS: &str = "status 0 0 0 0 0 0 0 0 0 0 0 0 0 0 0 0 0 0 0 0 0 0 0\n";
+
 pub fn all() -> Vec<Small> {
     let mut all = vec![small(&[], "")];
     all.extend(unknown_letters());
+    all.extend(later_letters());
     all.extend(ends_inside());
     all.extend(too_large());
     all.extend(at_the_limit());
+    all.extend(wrong_bytes());
+    all.extend(no_errors());
     all.extend(after_good_ones());
     all
 }
@@ -26,14 +54,25 @@ fn small(script: &[u8], text: &str) -> Small {
     Small { script: script.to_vec(), text: text.to_string() }
 }
 
-/// One whole command of each letter with its line.
-fn good_ones() -> [(Vec<u8>, &'static str); 3] {
+/// One whole command of each letter with its line; behind them the status of all zeros is held again.
+fn good_ones() -> Vec<(Vec<u8>, &'static str)> {
     let write = Write { channel: 0, flags: 0b00100, id: 1, cycle: 0, payload: vec![], room: 9 };
-    [
-        (bytes_of(&Command::checksum(0, b"123456789")), "checksum 0 7961021\n"),
-        (bytes_of(&Command::read(0, &FRAME)), "read 0 0 0 1 0 0 1 0 1695 0 -\n"),
-        (bytes_of(&Command::Write(write)), "write 0 8 200101a7c0d05eeaa5\n"),
-    ]
+    let commands = [
+        (Command::checksum(0, b"123456789"), "checksum 0 7961021\n"),
+        (Command::read(0, &FRAME), "read 0 0 0 1 0 0 1 0 1695 0 -\n"),
+        (Command::Write(write), "write 0 8 200101a7c0d05eeaa5\n"),
+        (Command::OwnSending, "event 23\n"),
+        (Command::OpenSlot(OPENING), "slot 0 0\n"),
+        (Command::Boundary, "event 0\n"),
+        (Command::Arrived(FRAME.to_vec()), "event 0\n"),
+        (Command::Show, "status 1 2 3 4 5 6 7 8 9 0 11 1 0 1 0 20 0 1 4 1 0 1695 0\n"),
+        (Command::PutStatus(STATUS), "status put\n"),
+        (Command::OwnSending, "event 0\n"),
+        (Command::Show, "status 1 2 3 4 5 6 7 8 9 0 11 1 0 1 0 56 0 1 4 1 0 1695 0\n"),
+        (Command::OpenSlot(Opening { channel: 2, ..OPENING }), "slot 1 0\n"),
+        (Command::Show, ZEROS),
+    ];
+    commands.map(|(command, line)| (bytes_of(&command), line)).into()
 }
 
 fn bytes_of(command: &Command) -> Vec<u8> {
@@ -43,13 +82,35 @@ fn bytes_of(command: &Command) -> Vec<u8> {
 }
 
 fn unknown_letters() -> Vec<Small> {
-    [0x00, b'\n', b'?', b'f', b'r', b'w', 0xFF].map(|letter| small(&[letter], "script error at 0\n")).into()
+    let letters = b"\x00\n?frwsabxtd\xFF";
+    letters.iter().map(|letter| small(&[*letter], "script error at 0\n")).collect()
+}
+
+/// Letters that get their meaning later: alone, and before bytes that such a command may have, zeros and good commands.
+fn later_letters() -> Vec<Small> {
+    let sheet = &bytes_of(&Command::OpenSlot(OPENING))[1..46];
+    let mut all = Vec::new();
+    for letter in *b"LOMCKP" {
+        all.push(small(&[letter], "script error at 0\n"));
+        all.push(small(&[&[letter], sheet, &[0; 500], b"DD"].concat(), "script error at 0\n"));
+        all.push(small(&[b"D", &[letter][..], &[0; 500]].concat(), &format!("{ZEROS}script error at 1\n")));
+    }
+    all
 }
 
 /// Every place at which a command can be cut off, from right behind the letter on.
 fn ends_inside() -> Vec<Small> {
     let write = Write { channel: 0, flags: 0b00100, id: 1, cycle: 0, payload: vec![1, 2], room: 10 };
-    let whole = [Command::checksum(0, &[1, 2]), Command::read(0, &FRAME), Command::Write(write)];
+    let whole = [
+        Command::checksum(0, &[1, 2]),
+        Command::read(0, &FRAME),
+        Command::Write(write),
+        Command::OpenSlot(OPENING),
+        Command::Arrived(FRAME.to_vec()),
+        Command::PutStatus(STATUS),
+        // Also a header that isn't looked at must be there whole.
+        Command::PutStatus(StatusNumbers { marks: 0, kept: false, ..STATUS }),
+    ];
     let mut all = Vec::new();
     for script in whole.map(|command| bytes_of(&command)) {
         all.extend((1..script.len()).map(|size| small(&script[..size], "script error at 0\n")));
@@ -61,7 +122,7 @@ fn ends_inside() -> Vec<Small> {
 
 /// Sizes and rooms above the limit, with and without bytes behind them.
 fn too_large() -> Vec<Small> {
-    const BEFORE_SIZE: [&[u8]; 3] = [b"F\x00", b"R\x01", b"W\x00\x04\x01\x00\x00"];
+    const BEFORE_SIZE: [&[u8]; 4] = [b"F\x00", b"R\x01", b"W\x00\x04\x01\x00\x00", b"A"];
     const BEFORE_ROOM: &[u8] = b"W\x00\x04\x01\x00\x00\x02\x00\x11\x22";
     let mut all = Vec::new();
     for number in TOO_LARGE {
@@ -84,17 +145,62 @@ fn too_large() -> Vec<Small> {
 /// The limit itself is no error, one byte missing below it is.
 fn at_the_limit() -> Vec<Small> {
     let read = bytes_of(&Command::read(0, &[0; LIMIT]));
+    let arrived = bytes_of(&Command::Arrived(vec![0; LIMIT]));
     let write = Write { channel: 0, flags: 1, id: 1, cycle: 0, payload: vec![], room: LIMIT };
     let refused = format!("write 12 0 {}\n", "a5".repeat(LIMIT));
     vec![
         small(&read, "read 3 -\n"),
         small(&read[..read.len() - 1], "script error at 0\n"),
+        small(&arrived, "event 23\n"),
+        small(&arrived[..arrived.len() - 1], "script error at 0\n"),
         small(&bytes_of(&Command::Write(write)), &refused),
     ]
 }
 
+/// Where a byte stands in its command, the letter at place 0.
+const SENDS_SYNC: usize = 45;
+const CHANNEL: usize = 46;
+const MARKS: usize = 50;
+const REASON: usize = 51;
+const KEPT: usize = 52;
+const FLAGS: usize = 53;
+
+/// A status is put and shown before the command, and shown behind it.
+fn with_byte(command: &Command, place: usize, byte: u8, lines: &str) -> Small {
+    let mut changed = bytes_of(command);
+    changed[place] = byte;
+    let put = bytes_of(&Command::PutStatus(STATUS));
+    small(&[&put[..], b"D", &changed, b"D"].concat(), &format!("status put\n{STATUS_LINE}{lines}"))
+}
+
+/// Switches that are neither 0 nor 1, and reasons above 5.
+fn wrong_bytes() -> Vec<Small> {
+    let (open, put) = (Command::OpenSlot(OPENING), Command::PutStatus(STATUS));
+    let unlooked = Command::PutStatus(StatusNumbers { marks: 0, kept: false, ..STATUS });
+    let switches = [(&open, SENDS_SYNC), (&put, SENDS_SYNC), (&put, CHANNEL), (&put, KEPT), (&unlooked, KEPT)];
+    let mut all = Vec::new();
+    for (command, place) in switches {
+        all.extend([2, 3, 128, 255].map(|byte| with_byte(command, place, byte, "script error at 2\n")));
+    }
+    all.extend([6, 7, 128, 255].map(|byte| with_byte(&put, REASON, byte, "script error at 2\n")));
+    all
+}
+
+/// Bytes that look like those above but are none of the errors.
+fn no_errors() -> Vec<Small> {
+    let (open, put) = (Command::OpenSlot(OPENING), Command::PutStatus(STATUS));
+    let mut all: Vec<Small> =
+        [2, 255].map(|byte| with_byte(&open, CHANNEL, byte, &format!("slot 1 0\n{ZEROS}"))).into();
+    let same = format!("status put\n{STATUS_LINE}");
+    all.push(with_byte(&put, MARKS, 0b1101_0000, &same));
+    all.push(with_byte(&put, FLAGS, 0b1110_0100, &same));
+    let last_reason = "status put\nstatus 1 2 3 4 5 6 7 8 9 0 11 1 0 1 0 16 5 1 4 1 0 1695 0\n";
+    all.push(with_byte(&put, REASON, 5, last_reason));
+    all
+}
+
 fn after_good_ones() -> Vec<Small> {
-    const BROKEN: [&[u8]; 8] = [
+    const BROKEN: [&[u8]; 11] = [
         b"?",
         b"F",
         b"R\x00\x08",
@@ -103,6 +209,9 @@ fn after_good_ones() -> Vec<Small> {
         b"R\x00\xFF\xFF",
         b"W\x00\x04\x01\x00\x00\x59\x02",
         b"W\x00\x04\x01\x00\x00\x00\x00\x59\x02",
+        b"S\x01\x00\x00\x00",
+        b"A\x59\x02",
+        b"T\x01\x00\x00\x00",
     ];
     let good = good_ones();
     let mut all: Vec<Small> = BROKEN.iter().map(|broken| after(&good, broken)).collect();

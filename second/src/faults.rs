@@ -5,16 +5,18 @@ use crate::draft::{fair_cycle, fair_id, fair_indicators, fair_words, foreign_cha
 use crate::frame::{Indicators, HIGHEST_CYCLE, HIGHEST_ID, LARGEST_PAYLOAD, MOST_WORDS, SMALLEST_FRAME};
 use crate::random::Random;
 use crate::refusal::Refusal;
-use crate::script::{Command, Write, LIMIT};
+use crate::scene::Scene;
+use crate::script::{Command, Opening, Write, LIMIT};
+use crate::settings::{self, FIELDS};
 
-/// Every selection from an order, the empty one included; each keeps the order.
-pub fn selections(order: &[Refusal]) -> Vec<Vec<Refusal>> {
+/// Every selection from an order, the empty one first; each keeps the order.
+pub fn selections<T: Copy>(order: &[T]) -> Vec<Vec<T>> {
     (0..1usize << order.len()).map(|marks| selection(order, marks)).collect()
 }
 
-fn selection(order: &[Refusal], marks: usize) -> Vec<Refusal> {
+fn selection<T: Copy>(order: &[T], marks: usize) -> Vec<T> {
     let marked = order.iter().enumerate().filter(|(place, _)| marks >> place & 1 == 1);
-    marked.map(|(_, refusal)| *refusal).collect()
+    marked.map(|(_, member)| *member).collect()
 }
 
 /// A selection with few members as a rule.
@@ -25,24 +27,29 @@ pub fn some_faults(random: &mut Random, order: &[Refusal]) -> Vec<Refusal> {
 /// A read in which each of the named refusals has a cause.
 pub fn faulty_read(random: &mut Random, faults: &[Refusal]) -> Command {
     let channel = random.pick(&Channel::BOTH);
-    let draft = faulty_draft(random, channel, faults);
-    let mut bytes = draft.bytes();
+    let words = fair_words(random);
+    let fair = Draft::fair(random, channel, words);
+    let bytes = faulty_bytes(random, fair, faults);
+    Command::read(channel_number(random, channel, faults), &bytes)
+}
+
+/// The bytes of a frame, with a cause in them for each of the named refusals but that of the channel.
+pub fn faulty_bytes(random: &mut Random, fair: Draft, faults: &[Refusal]) -> Vec<u8> {
+    let mut bytes = faulty_draft(random, fair, faults).bytes();
     if faults.contains(&Refusal::TooFewBytes) {
         // An odd size below 8 has the causes of both 2 and 3.
         bytes.truncate(2 * random.below(4) + usize::from(faults.contains(&Refusal::Size)));
     }
-    Command::read(channel_number(random, channel, faults), &bytes)
+    bytes
 }
 
-fn faulty_draft(random: &mut Random, channel: Channel, faults: &[Refusal]) -> Draft {
-    let words = fair_words(random);
-    let mut draft = Draft::fair(random, channel, words);
+fn faulty_draft(random: &mut Random, mut draft: Draft, faults: &[Refusal]) -> Draft {
     draft.indicators = with_startup_fault(draft.indicators, faults);
     if faults.contains(&Refusal::Size) {
         draft.payload = misfit_payload(random);
     }
     if faults.contains(&Refusal::WordsAgainstSize) {
-        draft.words = other_words(random, words);
+        draft.words = other_words(random, draft.words);
     }
     if faults.contains(&Refusal::IdRead) {
         draft.id = 0;
@@ -67,7 +74,8 @@ fn misfit_payload(random: &mut Random) -> Vec<u8> {
     random.bytes(size)
 }
 
-fn other_words(random: &mut Random, words: u8) -> u8 {
+/// A number of words that isn't this one.
+pub fn other_words(random: &mut Random, words: u8) -> u8 {
     if words > 0 && random.one_in(3) {
         return words - 1;
     }
@@ -172,5 +180,30 @@ fn short_room(random: &mut Random, frame: usize) -> usize {
         0 => 0,
         1 => random.below(frame),
         _ => frame - 1,
+    }
+}
+
+/// An opening of a slot in which each of the named refusals has a cause.
+pub fn faulty_opening(random: &mut Random, faults: &[Refusal]) -> Opening {
+    let scene = Scene::any(random);
+    let fair = scene.opening();
+    let field = random.between(1, FIELDS);
+    let wrong = faults.contains(&Refusal::Setting);
+    Opening {
+        settings: if wrong { fair.settings.with_field(field, wrong_value(random, field)) } else { fair.settings },
+        channel: channel_number(random, scene.channel, faults),
+        slot: if faults.contains(&Refusal::IdGiven) { wrong_id(random) } else { fair.slot },
+        cycle: if faults.contains(&Refusal::Cycle) { wrong_cycle(random) } else { fair.cycle },
+    }
+}
+
+/// A value out of the range of a field.
+pub fn wrong_value(random: &mut Random, field: usize) -> u32 {
+    let (lowest, highest) = settings::ends(field);
+    match random.below(4) {
+        0 => lowest.checked_sub(1).unwrap_or(u32::MAX),
+        1 => highest + 1,
+        2 => random.between(highest as usize + 1, u32::MAX as usize) as u32,
+        _ => random.pick(&[lowest + 0x1_0000, lowest + 0x8000_0000, u32::MAX]),
     }
 }

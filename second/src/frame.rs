@@ -141,6 +141,12 @@ pub fn read(channel: u8, bytes: &[u8]) -> Result<Fields, Refusal> {
     Ok(fields)
 }
 
+/// Whether some frame reads as these fields: the one made of them does, or none does. Payload and channel are free.
+pub fn could_be_read(fields: &Fields) -> bool {
+    let payload = vec![0; 2 * usize::from(fields.words)];
+    read(Channel::A.number(), &frame_bytes(Channel::A, fields, &payload)) == Ok(*fields)
+}
+
 /// The caller's own bytes between header and trailer, or an empty part after a refusal.
 pub fn payload<'a>(answer: &Result<Fields, Refusal>, bytes: &'a [u8]) -> &'a [u8] {
     if answer.is_err() {
@@ -287,6 +293,26 @@ mod tests {
             let fields = Fields { indicators, id: 0x52B, words: 0x4D, header_checksum: 0, cycle: 21 };
             let stretch = &bits::of_bytes(&bits::to_bytes(&fields.bits()))[3..23];
             assert_eq!(u32::from(fields.right_header_checksum()), HEADER.checksum(0x01A, stretch));
+        }
+    }
+
+    #[test]
+    fn what_could_be_read() {
+        let header = |flags, id, words, cycle| {
+            let indicators = Indicators::from_flags(flags);
+            Fields { indicators, id, words, header_checksum: 0, cycle }.with_right_checksum()
+        };
+        for good in [header(0, 1, 0, 0), header(0b00111, 2047, 127, 63), header(0b11000, 5, 5, 5)] {
+            assert!(could_be_read(&good));
+            for place in 0..16 {
+                assert!(!could_be_read(&Fields { header_checksum: good.header_checksum ^ 1 << place, ..good }));
+            }
+        }
+        for bad in [header(0, 0, 0, 0), header(0, 2048, 0, 0), header(0, 2049, 0, 0), header(0b10000, 1, 0, 0)] {
+            assert!(!could_be_read(&bad));
+        }
+        for bad in [header(0, 1, 128, 0), header(0, 1, 255, 0), header(0, 1, 0, 64), header(0, 1, 0, 255)] {
+            assert!(!could_be_read(&bad));
         }
     }
 

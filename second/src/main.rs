@@ -1,4 +1,4 @@
-//! A second program for FlexRay frames: works out what a replay script must give, and makes such scripts.
+//! A second program for FlexRay frames and slots: works out what a replay script must give, and makes such scripts.
 
 mod bits;
 mod cases;
@@ -8,13 +8,22 @@ mod draft;
 mod errors;
 mod faults;
 mod frame;
+mod history;
+mod marks;
 mod mixture;
 mod plan;
 mod random;
 mod reached;
+mod reason;
 mod refusal;
 mod replay;
+mod scene;
 mod script;
+mod settings;
+mod slot;
+mod slot_mixture;
+mod slot_note;
+mod status_numbers;
 mod vectors;
 
 use std::error::Error;
@@ -73,8 +82,8 @@ fn replay_input() -> Done {
 fn write_errors(directory: &Path) -> Done {
     fs::create_dir_all(directory)?;
     for (number, small) in errors::all().iter().enumerate() {
-        fs::write(directory.join(format!("{number:02}.script")), &small.script)?;
-        fs::write(directory.join(format!("{number:02}.lines")), &small.text)?;
+        fs::write(directory.join(format!("{number:03}.script")), &small.script)?;
+        fs::write(directory.join(format!("{number:03}.lines")), &small.text)?;
     }
     Ok(())
 }

@@ -1,5 +1,7 @@
 //! Commands at random, weighted so that every answer and every refusal turns up.
 
+use std::iter;
+
 use crate::bits;
 use crate::channel::Channel;
 use crate::draft::{fair_words, foreign_channel, Draft};
@@ -8,18 +10,32 @@ use crate::frame::Indicators;
 use crate::random::Random;
 use crate::refusal::{READ_ORDER, WRITE_ORDER};
 use crate::script::{Command, LIMIT};
+use crate::slot_mixture;
 
 /// A whole script of random commands.
 pub fn script(seed: u64, count: usize) -> Vec<u8> {
     let mut random = Random::from_seed(seed);
     let mut script = Vec::new();
-    for _ in 0..count {
-        command(&mut random).append_to(&mut script);
+    let commands = iter::repeat_with(|| stretch(&mut random)).flatten();
+    for command in commands.take(count) {
+        command.append_to(&mut script);
     }
     script
 }
 
-pub fn command(random: &mut Random) -> Command {
+/// What happens to one slot, with as many frame commands strewn in, which leave the slot alone.
+fn stretch(random: &mut Random) -> Vec<Command> {
+    let mut commands = Vec::new();
+    for command in slot_mixture::episode(random) {
+        commands.push(command);
+        while random.coin() {
+            commands.push(frame_command(random));
+        }
+    }
+    commands
+}
+
+pub fn frame_command(random: &mut Random) -> Command {
     match random.below(20) {
         0 | 1 => any_checksum(random),
         2 | 3 => random_bytes_read(random),
@@ -33,7 +49,7 @@ pub fn command(random: &mut Random) -> Command {
 }
 
 /// Small as a rule, so that scripts stay short.
-fn any_size(random: &mut Random) -> usize {
+pub fn any_size(random: &mut Random) -> usize {
     if random.one_in(8) {
         return random.between(0, LIMIT);
     }
@@ -74,12 +90,17 @@ fn true_frame_read(random: &mut Random) -> Command {
 
 fn damaged_read(random: &mut Random) -> Command {
     let draft = fair_draft(random);
+    Command::read(draft.channel.number(), &damaged(random, &draft))
+}
+
+/// The bytes of a frame with some of their bits turned over.
+pub fn damaged(random: &mut Random, draft: &Draft) -> Vec<u8> {
     let mut bytes = draft.bytes();
     for _ in 0..random.between(1, 6) {
         let place = random.below(8 * bytes.len());
         bits::flip(&mut bytes, place);
     }
-    Command::read(draft.channel.number(), &bytes)
+    bytes
 }
 
 fn cut_or_extended_read(random: &mut Random) -> Command {

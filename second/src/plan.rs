@@ -3,6 +3,7 @@
 use crate::refusal::Refusal;
 use crate::replay::Answer;
 use crate::script::Command;
+use crate::slot_note::SlotNote;
 
 /// What must come of a command: what its case demands, or in a round trip what the command before it gave.
 #[derive(Clone, Debug)]
@@ -15,6 +16,10 @@ pub enum Expected {
 }
 
 impl Expected {
+    pub fn line(line: &str) -> Expected {
+        Expected::Line(line.to_string())
+    }
+
     /// The first cause in the entry's order is the refusal; no cause at all means accepted.
     pub fn first_of(faults: &[Refusal]) -> Expected {
         faults.first().map_or(Expected::Accepted, |first| Expected::Refused(*first))
@@ -46,6 +51,7 @@ pub enum Note {
     SizeOf01(usize),
     /// Two causes of the entry with this letter stood together; the first is the answer.
     Coincidence(char, Refusal, Refusal),
+    Slot(SlotNote),
 }
 
 #[derive(Clone, Debug)]
@@ -80,6 +86,12 @@ impl Plan {
 
     pub fn add_noted(&mut self, command: Command, expected: Expected, note: Note) {
         self.entries.push(Entry { command, expected, notes: vec![note] });
+    }
+
+    /// One more note for the command added last.
+    pub fn note_last(&mut self, note: SlotNote) {
+        let last = self.entries.last_mut().expect("a command was added");
+        last.notes.push(Note::Slot(note));
     }
 
     /// A command with the named causes, noting which ones stood behind the first.

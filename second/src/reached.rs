@@ -1,5 +1,7 @@
 //! Counts what a script reached, and names what it should have reached and did not.
 
+mod slots;
+
 use std::collections::BTreeMap;
 
 use crate::channel::Channel;
@@ -35,6 +37,15 @@ pub enum Reach {
     RoomLarger,
     RoomOneShort,
     RoomZero,
+    FieldOpened(usize, u32),
+    FieldNotOpened(usize, u32),
+    SyncSenderOpened(bool),
+    SlotOpened(u8, u16),
+    SlotNotOpened(u16),
+    CycleOpened(u8),
+    CycleNotOpened(u8),
+    /// Marks shown where nothing but events followed an opening.
+    MarksFromOpening(Channel, u8),
     Noted(Note),
     ScriptError,
 }
@@ -42,6 +53,8 @@ pub enum Reach {
 #[derive(Default)]
 pub struct Reached {
     counts: BTreeMap<Reach, usize>,
+    /// The status held comes from an opening, and was not put.
+    from_opening: bool,
 }
 
 impl Reached {
@@ -62,7 +75,7 @@ impl Reached {
 
     /// How often each entry gave each number, one line per entry.
     pub fn summary(&self) -> String {
-        ['F', 'R', 'W'].map(|letter| self.summary_of(letter)).join("\n")
+        ['F', 'R', 'W', 'S', 'A', 'B', 'X', 'T', 'D'].map(|letter| self.summary_of(letter)).join("\n")
     }
 
     fn summary_of(&self, letter: char) -> String {
@@ -86,6 +99,12 @@ impl Reached {
             Command::Checksum(given) => self.add_channel('F', given.channel),
             Command::Read(given) => self.add_read(given, answer),
             Command::Write(write) => self.add_write(write, answer.refusal()),
+            Command::OpenSlot(opening) => self.add_opening(opening, answer),
+            Command::PutStatus(_) => self.add_put(),
+            Command::Show | Command::Arrived(_) | Command::Boundary | Command::OwnSending => (),
+        }
+        if let Answer::Shown(numbers) = answer {
+            self.add_shown(numbers);
         }
     }
 
@@ -159,6 +178,7 @@ fn required() -> Vec<Reach> {
     all.extend(required_reads());
     all.extend(required_writes());
     all.extend(required_notes().into_iter().map(Reach::Noted));
+    all.extend(slots::required());
     all
 }
 

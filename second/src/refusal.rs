@@ -1,4 +1,4 @@
-//! The refusals of 01 "Refusal numbers" that frames can meet.
+//! The refusals of 01 "Refusal numbers" that frames and slots can meet.
 
 #[derive(Clone, Copy, Debug, PartialEq, Eq, PartialOrd, Ord)]
 pub enum Refusal {
@@ -15,6 +15,8 @@ pub enum Refusal {
     Cycle = 11,
     ReservedToWrite = 12,
     Output = 13,
+    Setting = 17,
+    NotSound = 23,
 }
 
 /// 01 "Refusal numbers", order of a read.
@@ -40,6 +42,9 @@ pub const WRITE_ORDER: [Refusal; 7] = [
     Refusal::Output,
 ];
 
+/// 01 "Refusal numbers", order of opening a slot.
+pub const OPEN_SLOT_ORDER: [Refusal; 4] = [Refusal::Setting, Refusal::Channel, Refusal::IdGiven, Refusal::Cycle];
+
 impl Refusal {
     pub fn number(self) -> u8 {
         self as u8
@@ -54,5 +59,6 @@ mod tests {
     fn orders_stand_as_in_the_paper() {
         assert_eq!(READ_ORDER.map(Refusal::number), [1, 2, 3, 4, 5, 6, 7, 8]);
         assert_eq!(WRITE_ORDER.map(Refusal::number), [1, 9, 10, 11, 7, 12, 13]);
+        assert_eq!(OPEN_SLOT_ORDER.map(Refusal::number), [17, 1, 9, 11]);
     }
 }

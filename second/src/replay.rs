@@ -2,7 +2,9 @@
 
 use crate::frame::{self, Fields};
 use crate::refusal::Refusal;
-use crate::script::{Command, OnChannel, Rest, Write};
+use crate::script::{Command, OnChannel, Opening, Rest, Write};
+use crate::slot::{self, Event, SlotStatus};
+use crate::status_numbers::StatusNumbers;
 
 /// What every byte of a lent output holds before a write.
 const UNTOUCHED: u8 = 0xA5;
@@ -12,14 +14,26 @@ pub enum Answer {
     Checksum(Result<u32, Refusal>),
     Read(Result<Fields, Refusal>, Vec<u8>),
     Write(Result<usize, Refusal>, Vec<u8>),
+    /// With the number of the first field out of range, or 0.
+    Opened(Result<(), Refusal>, usize),
+    Event(Result<(), Refusal>),
+    StatusPut,
+    Shown(StatusNumbers),
 }
 
 impl Answer {
-    pub fn to(command: &Command) -> Answer {
+    /// The answer, with the status that comes back held from then on.
+    fn to(command: &Command, held: &mut SlotStatus) -> Answer {
         match command {
             Command::Checksum(given) => Answer::Checksum(frame::frame_checksum(given.channel, &given.bytes)),
             Command::Read(given) => answer_to_read(given),
             Command::Write(write) => answer_to_write(write),
+            Command::OpenSlot(opening) => answer_to_opening(opening, held),
+            Command::Arrived(bytes) => answer_to_event(&Event::Arrived(bytes), held),
+            Command::Boundary => answer_to_event(&Event::Boundary, held),
+            Command::OwnSending => answer_to_event(&Event::OwnSending, held),
+            Command::PutStatus(numbers) => answer_to_put(numbers, held),
+            Command::Show => Answer::Shown(StatusNumbers::of(held)),
         }
     }
 
@@ -28,6 +42,8 @@ impl Answer {
             Answer::Checksum(answer) => answer.err(),
             Answer::Read(answer, _) => answer.err(),
             Answer::Write(answer, _) => answer.err(),
+            Answer::Opened(answer, _) | Answer::Event(answer) => answer.err(),
+            Answer::StatusPut | Answer::Shown(_) => None,
         }
     }
 
@@ -44,6 +60,10 @@ impl Answer {
             Answer::Read(Ok(fields), payload) => format!("read 0 {} {}", field_numbers(fields), hex(payload)),
             Answer::Read(Err(_), payload) => format!("read {number} {}", hex(payload)),
             Answer::Write(answer, output) => format!("write {number} {} {}", answer.unwrap_or(0), hex(output)),
+            Answer::Opened(_, field) => format!("slot {number} {field}"),
+            Answer::Event(_) => format!("event {number}"),
+            Answer::StatusPut => "status put".to_string(),
+            Answer::Shown(numbers) => numbers.line(),
         }
     }
 }
@@ -58,6 +78,26 @@ fn answer_to_write(write: &Write) -> Answer {
     let mut output = vec![UNTOUCHED; write.room];
     let answer = frame::write(write.channel, &write.given(), &write.payload, &mut output);
     Answer::Write(answer, output)
+}
+
+fn answer_to_opening(opening: &Opening, held: &mut SlotStatus) -> Answer {
+    let answer = slot::open(opening.settings, opening.channel, opening.slot, opening.cycle);
+    // A field out of range is the first cause of all, so that a field is told with 17 only.
+    let field = opening.settings.first_out_of_range().unwrap_or(0);
+    let told = answer.as_ref().map(|_| ()).map_err(|refusal| *refusal);
+    // 01 "Refusal numbers": no state was handed in, so that a refusal gives the one of all zeros.
+    *held = answer.unwrap_or_default();
+    Answer::Opened(told, field)
+}
+
+/// A refused event gives back the very status that was handed in.
+fn answer_to_event(event: &Event, held: &mut SlotStatus) -> Answer {
+    Answer::Event(held.after(event).map(|after| *held = after))
+}
+
+fn answer_to_put(numbers: &StatusNumbers, held: &mut SlotStatus) -> Answer {
+    *held = numbers.status();
+    Answer::StatusPut
 }
 
 fn field_numbers(fields: &Fields) -> String {
@@ -91,13 +131,14 @@ impl Outcome {
 /// The outcomes of a script in their order; a script error is the last.
 pub struct Replay<'a> {
     rest: Rest<'a>,
+    held: SlotStatus,
     command: usize,
     broken: bool,
 }
 
 impl<'a> Replay<'a> {
     pub fn of(script: &'a [u8]) -> Replay<'a> {
-        Replay { rest: Rest::of(script), command: 0, broken: false }
+        Replay { rest: Rest::of(script), held: SlotStatus::default(), command: 0, broken: false }
     }
 }
 
@@ -113,7 +154,7 @@ impl Iterator for Replay<'_> {
             return Some(Outcome::ScriptError(self.command));
         };
         self.command += 1;
-        let answer = Answer::to(&command);
+        let answer = Answer::to(&command, &mut self.held);
         Some(Outcome::Answered(command, answer))
     }
 }
@@ -146,6 +187,43 @@ mod tests {
             "checksum 1 0",
         ];
         assert_eq!(text(script), lines.join("\n") + "\n");
+    }
+
+    /// Settings that are in range, their lowest values, and a slot that opens with them.
+    const SHEET: [u8; 45] = [
+        0, 0, 0, 0, 0, 0, 0, 0, 0, 0, 0, 0, 2, 0, 0, 0, 0, 0, 0, 0, 0, 0, 0, 0, 0, 0, 0, 0, 0, 0, 0, 0, 0, 0, 0, 0, 0,
+        0, 0, 0, 2, 0, 0, 0, 1,
+    ];
+
+    #[test]
+    fn slot_lines_by_hand() {
+        let opening = [b"S", &SHEET[..], b"\x01\x01\x00\x00"].concat();
+        let refused = [b"S", &SHEET[..], b"\x01\x00\x08\x00"].concat();
+        let out_of_range = [b"S", &[0; 45][..], b"\x02\x00\x00\xFF"].concat();
+        let events = b"DXDA\x08\x00\x20\x01\x01\xA7\xC0\x3B\xD0\x8FDBDA\x00\x00D";
+        let script = [b"DX", &opening[..], events, &refused, b"D", &opening, &out_of_range, b"BD"].concat();
+        let zeros = "status 0 0 0 0 0 0 0 0 0 0 0 0 0 0 0 0 0 0 0 0 0 0 0";
+        let lines = [
+            zeros,
+            "event 23",
+            "slot 0 0",
+            "status 0 0 0 2 0 0 0 0 0 0 2 1 1 1 0 0 0 0 0 0 0 0 0",
+            "event 0",
+            "status 0 0 0 2 0 0 0 0 0 0 2 1 1 1 0 32 0 0 0 0 0 0 0",
+            "event 0",
+            "status 0 0 0 2 0 0 0 0 0 0 2 1 1 1 0 56 0 1 4 1 0 1695 0",
+            "event 0",
+            "status 0 0 0 2 0 0 0 0 0 0 2 1 1 1 0 60 0 1 4 1 0 1695 0",
+            "event 0",
+            "status 0 0 0 2 0 0 0 0 0 0 2 1 1 1 0 61 0 1 4 1 0 1695 0",
+            "slot 9 0",
+            zeros,
+            "slot 0 0",
+            "slot 17 4",
+            "event 23",
+            zeros,
+        ];
+        assert_eq!(text(&script), lines.join("\n") + "\n");
     }
 
     #[test]

@@ -33,6 +33,10 @@ pub fn build() -> Result<Vectors, String> {
     if !missing.is_empty() {
         return Err(format!("not reached: {missing:?}"));
     }
+    let impossible = reached.impossible();
+    if !impossible.is_empty() {
+        return Err(format!("reached, though 01 leaves no way there: {impossible:?}"));
+    }
     let text = replay::text(&script);
     let summary = format!("{} commands\n{}", outcomes.len(), reached.summary());
     Ok(Vectors { script, text, summary })
@@ -61,7 +65,7 @@ mod tests {
     #[test]
     fn the_listed_cases_hold_and_reach_everything() {
         let vectors = build().unwrap();
-        assert!(vectors.script.len() < 1_500_000);
+        assert!(vectors.script.len() < 1_600_000);
         assert!(vectors.text.len() < 3_000_000);
     }
 }

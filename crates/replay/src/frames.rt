@@ -94,7 +94,7 @@ pub fn write() -> bool {
 }
 
 // The fields to write. A flag is a bit, the first the lowest; the bits above the five are not looked at.
-fn fields_of(flags: u8, id: u16, cycle: u8) -> Fields {
+pub fn fields_of(flags: u8, id: u16, cycle: u8) -> Fields {
     Fields {
         reserved: flags % 2 == 1,
         preamble: flags / 2 % 2 == 1,

@@ -99,6 +99,28 @@ pub fn take_on_channel(space: &mut [u8]) -> OnChannel
     }
 }
 
+// A field of a settings sheet, four bytes, 0 where a script error stands in its place.
+pub struct Field {
+    pub is_script_error: bool,
+    pub value: u32,
+}
+
+pub fn take_field() -> Field {
+    let mut item = [0u8; 4];
+    let is_script_error = !take(&mut item);
+    let low = number(item[0], item[1]);
+    let high = number(item[2], item[3]);
+    Field {
+        is_script_error,
+        value: high as u32 * 65536 + low as u32,
+    }
+}
+
+// A switch is 0 or 1.
+pub fn is_no_switch(byte: u8) -> bool {
+    1 < byte
+}
+
 // The number that two bytes of the script make.
 pub fn number(low: u8, high: u8) -> u16 {
     high as u16 * 256 + low as u16

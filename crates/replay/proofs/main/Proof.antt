@@ -3,12 +3,21 @@ use borrow.Author.Needs.{needs}
 use Prim.Native.Nat.{_-_, _^_}
 use Rattle.replay.proofs.main.Statement.{statement}
 use Rattle.replay.proofs.main.Tie as tie
+use Rattle.replay.proofs.main.Reads as reads
+use Rattle.replay.proofs.main.Lts as lts
+use Rattle.replay.proofs.play.Reads as play-reads
+use Rattle.replay.proofs.script.take_letter.Reads as take-letter-reads
+use Rattle.replay.proofs.script_error.Reads as script-error-reads
+use Rattle.slot.proofs.status.Status.none.Reads as none-reads
 
 abbrev Inv-loop : tie.InvT-loop
-Inv-loop command₀ command = Unit {0}
+Inv-loop status₀ command₀ status command = Unit {0}
 
 abbrev μ-loop : tie.MeasureT-loop
-μ-loop command₀ command = 2 ^ 64 - command
+μ-loop status₀ command₀ status command = 2 ^ 64 - command
+
+none-requires : tie.Need-none-requires Inv-loop μ-loop
+none-requires c κs = search needs
 
 loop-holds : tie.Need-loop-holds Inv-loop μ-loop
 loop-holds c = search needs
@@ -52,6 +61,7 @@ main-spec =
     (tie.spec
     Inv-loop
     μ-loop
+    none-requires
     loop-holds
     take-letter-requires
     enum-known-letter

@@ -1,0 +1,250 @@
+//! Statuses with one clause of 01's soundness broken, each beside a sound one that differs in that clause alone.
+
+use crate::frame::{Fields, Indicators};
+use crate::history::{play_put, play_refused, put, show, with_conflict, Happening};
+use crate::marks::Mark;
+use crate::plan::Plan;
+use crate::random::Random;
+use crate::reason::Reason;
+use crate::scene::{Kind, Scene};
+use crate::settings::{self, FIELDS, STATIC_SLOTS, STATIC_WORDS};
+use crate::slot_note::{Clause, SlotNote};
+use crate::status_numbers::{HeaderNumbers, StatusNumbers};
+
+/// The slot is that of the sound status.
+struct Pair {
+    clause: Clause,
+    slot: Scene,
+    sound: StatusNumbers,
+    unsound: StatusNumbers,
+}
+
+pub fn add(plan: &mut Plan, random: &mut Random) {
+    let mut pairs = Vec::new();
+    for field in 1..=FIELDS {
+        pairs.extend(settings(random, field));
+    }
+    pairs.extend(slots_and_cycles(random));
+    for kind in Kind::BOTH {
+        pairs.extend(reasons(random, kind));
+        pairs.extend(kept_or_not(random, kind));
+        pairs.extend(kept_numbers(random, kind));
+        pairs.extend(kept_misses(random, kind));
+    }
+    pairs.extend(kept_across_the_border(random));
+    pairs.extend(kept_like_the_slot(random));
+    pairs.extend(kept_checksums(random));
+    pairs.push(kept_startup(random));
+    for marks in 0..64 {
+        pairs.extend(conflicts(random, marks));
+    }
+    for pair in &pairs {
+        add_unsound(plan, random, pair);
+        add_repaired(plan, random, pair);
+    }
+}
+
+/// Every event is refused and leaves the status as it was put.
+fn add_unsound(plan: &mut Plan, random: &mut Random, pair: &Pair) {
+    let frame = pair.slot.good(random).bytes();
+    put(plan, &pair.unsound);
+    show(plan, &pair.unsound);
+    play_refused(plan, &pair.unsound, frame, |letter| SlotNote::Unsound(pair.clause, letter));
+}
+
+fn add_repaired(plan: &mut Plan, random: &mut Random, pair: &Pair) {
+    for event in [Happening::Good(pair.slot.good(random)), Happening::Boundary, Happening::OwnSending] {
+        let letter = event.command().letter();
+        play_put(plan, &pair.sound, &[event]);
+        plan.note_last(SlotNote::Repaired(pair.clause, letter));
+    }
+}
+
+/// Values out of range, each beside the end of the range that is nearest.
+fn settings(random: &mut Random, field: usize) -> Vec<Pair> {
+    let (lowest, highest) = settings::ends(field);
+    let below = lowest.checked_sub(1).map(|value| (value, lowest));
+    let mut pairs = Vec::new();
+    for (wrong, right) in below.into_iter().chain([(highest + 1, highest), (u32::MAX, highest)]) {
+        let fair = Scene::first_slot(random);
+        let slot = Scene { settings: fair.settings.with_field(field, right), ..fair };
+        let sound = slot.fresh();
+        let unsound = StatusNumbers { settings: sound.settings.with_field(field, wrong), ..sound };
+        pairs.push(Pair { clause: Clause::Setting(field, wrong), slot, sound, unsound });
+    }
+    pairs
+}
+
+fn slots_and_cycles(random: &mut Random) -> Vec<Pair> {
+    let slots = [(0, 1, Kind::Static), (2048, 2047, Kind::Dynamic), (65535, 2047, Kind::Dynamic)];
+    let mut pairs = Vec::new();
+    for (wrong, right, kind) in slots {
+        let slot = Scene { slot: right, ..Scene::any_of(random, kind) };
+        let unsound = StatusNumbers { slot: wrong, ..slot.fresh() };
+        pairs.push(Pair { clause: Clause::Slot(wrong), slot, sound: slot.fresh(), unsound });
+    }
+    for wrong in [64, 255] {
+        let slot = Scene { cycle: 63, ..Scene::any(random) };
+        let unsound = StatusNumbers { cycle: wrong, ..slot.fresh() };
+        pairs.push(Pair { clause: Clause::Cycle(wrong), slot, sound: slot.fresh(), unsound });
+    }
+    pairs
+}
+
+/// A reason and "content error" apart; together every reason is sound, also one that this kind of slot can't come by.
+fn reasons(random: &mut Random, kind: Kind) -> Vec<Pair> {
+    let slot = Scene::any_of(random, kind);
+    let with = |marks, reason| StatusNumbers { marks, reason, ..slot.fresh() };
+    let content_error = Mark::ContentError.bit();
+    let mut pairs = Vec::new();
+    for reason in Reason::IN_ORDER {
+        let clause = Clause::ReasonWithoutContentError(kind, reason);
+        let (sound, unsound) = (with(content_error, reason.number()), with(0, reason.number()));
+        pairs.push(Pair { clause, slot, sound, unsound });
+    }
+    let clause = Clause::ContentErrorWithoutReason(kind);
+    pairs.push(Pair { clause, slot, sound: slot.fresh(), unsound: with(content_error, 0) });
+    pairs
+}
+
+/// The status in which this header is kept.
+fn holding(slot: &Scene, header: HeaderNumbers) -> StatusNumbers {
+    StatusNumbers { marks: Mark::Valid.bit(), kept: true, header, ..slot.fresh() }
+}
+
+fn good_header(random: &mut Random, slot: &Scene) -> HeaderNumbers {
+    HeaderNumbers::of(&slot.good(random).fields())
+}
+
+/// "Valid" and a kept frame apart; the frame's numbers stand behind the switch in either case.
+fn kept_or_not(random: &mut Random, kind: Kind) -> Vec<Pair> {
+    let slot = Scene::any_of(random, kind);
+    let sound = holding(&slot, good_header(random, &slot));
+    let without_valid = StatusNumbers { marks: 0, ..sound };
+    let without_kept = StatusNumbers { kept: false, ..sound };
+    vec![
+        Pair { clause: Clause::KeptWithoutValid(kind), slot, sound, unsound: without_valid },
+        Pair { clause: Clause::ValidWithoutKept(kind), slot, sound, unsound: without_kept },
+    ]
+}
+
+/// Numbers that no read gives, their checksum right. Most have the right number in their lowest bits.
+fn kept_numbers(random: &mut Random, kind: Kind) -> Vec<Pair> {
+    let slot = Scene::any_of(random, kind);
+    let good = good_header(random, &slot);
+    let cases = [
+        (Clause::KeptId(0), HeaderNumbers { id: 0, ..good }),
+        (Clause::KeptId(2048), HeaderNumbers { id: 2048, ..good }),
+        (Clause::KeptId(65535), HeaderNumbers { id: 65535, ..good }),
+        (Clause::KeptId(2048), HeaderNumbers { id: good.id + 2048, ..good }),
+        (Clause::KeptWords(kind), HeaderNumbers { words: 128, ..good }),
+        (Clause::KeptWords(kind), HeaderNumbers { words: good.words + 128, ..good }),
+        (Clause::KeptWords(kind), HeaderNumbers { words: 255, ..good }),
+        (Clause::KeptCycle(64), HeaderNumbers { cycle: 64, ..good }),
+        (Clause::KeptCycle(64), HeaderNumbers { cycle: good.cycle + 64, ..good }),
+        (Clause::KeptCycle(255), HeaderNumbers { cycle: 255, ..good }),
+    ];
+    let sound = holding(&slot, good);
+    let pair = |(clause, wrong): (Clause, HeaderNumbers)| {
+        let unsound = holding(&slot, wrong.with_right_checksum());
+        Pair { clause, slot, sound, unsound }
+    };
+    cases.map(pair).into()
+}
+
+/// Frames that can be read but miss a test of the slot.
+fn kept_misses(random: &mut Random, kind: Kind) -> Vec<Pair> {
+    let mut pairs = Vec::new();
+    for test in kind.tests() {
+        let slot = Scene::any_of(random, kind);
+        let sound = holding(&slot, good_header(random, &slot));
+        let wrong = slot.missing(random, &[*test]).fields();
+        let mut headers = vec![wrong];
+        if *test == Reason::DynamicSync {
+            // A startup frame and one that isn't.
+            let indicators = Indicators { startup: !wrong.indicators.startup, ..wrong.indicators };
+            headers.push(Fields { indicators, ..wrong }.with_right_checksum());
+        }
+        let clause = Clause::KeptMisses(kind, *test);
+        let unsound = headers.iter().map(|fields| holding(&slot, HeaderNumbers::of(fields)));
+        pairs.extend(unsound.map(|unsound| Pair { clause, slot, sound, unsound }));
+    }
+    pairs
+}
+
+/// One kept frame, and field 11 one more or less: what is sound in a slot of one kind misses a test in the other.
+fn kept_across_the_border(random: &mut Random) -> Vec<Pair> {
+    let cases = [
+        (Kind::Dynamic, Reason::StaticWords, 0b00100),
+        (Kind::Static, Reason::DynamicSync, 0b01100),
+        (Kind::Static, Reason::DynamicNull, 0b00000),
+    ];
+    let mut pairs = Vec::new();
+    for (kind, missed, look) in cases {
+        let (last_static, moved, other) = match kind {
+            Kind::Static => (500, 499, Kind::Dynamic),
+            Kind::Dynamic => (499, 500, Kind::Static),
+        };
+        let fair = Scene::any_of(random, kind);
+        let settings = fair.settings.with_field(STATIC_WORDS, 2).with_field(STATIC_SLOTS, last_static);
+        let slot = Scene { slot: 500, settings, ..fair };
+        let words = if missed == Reason::StaticWords { 3 } else { 2 };
+        let good = HeaderNumbers { flags: look, words, ..good_header(random, &slot) }.with_right_checksum();
+        let sound = holding(&slot, good);
+        let unsound = StatusNumbers { settings: settings.with_field(STATIC_SLOTS, moved), ..sound };
+        pairs.push(Pair { clause: Clause::KeptMisses(other, missed), slot, sound, unsound });
+    }
+    pairs
+}
+
+/// Slot or cycle out of range together with the kept frame's, so that no test is missed.
+fn kept_like_the_slot(random: &mut Random) -> Vec<Pair> {
+    let mut pairs = Vec::new();
+    for (wrong, right, kind) in [(0, 1, Kind::Static), (2048, 2047, Kind::Dynamic)] {
+        let slot = Scene { slot: right, ..Scene::any_of(random, kind) };
+        let good = good_header(random, &slot);
+        let kept = HeaderNumbers { id: wrong, ..good }.with_right_checksum();
+        let unsound = StatusNumbers { slot: wrong, ..holding(&slot, kept) };
+        pairs.push(Pair { clause: Clause::SlotAndKeptId(wrong), slot, sound: holding(&slot, good), unsound });
+    }
+    let slot = Scene { cycle: 63, ..Scene::any(random) };
+    let good = good_header(random, &slot);
+    let unsound = StatusNumbers { cycle: 64, ..holding(&slot, HeaderNumbers { cycle: 64, ..good }) };
+    pairs.push(Pair { clause: Clause::CycleAndKeptCycle(64), slot, sound: holding(&slot, good), unsound });
+    pairs
+}
+
+/// Every bit of the number wrong, the five that no header has included.
+fn kept_checksums(random: &mut Random) -> Vec<Pair> {
+    let wrong_in = |bit: u8| {
+        let slot = Scene::any(random);
+        let good = good_header(random, &slot);
+        let wrong = HeaderNumbers { checksum: good.checksum ^ 1 << bit, ..good };
+        let (sound, unsound) = (holding(&slot, good), holding(&slot, wrong));
+        Pair { clause: Clause::KeptChecksum(bit), slot, sound, unsound }
+    };
+    (0..16).map(wrong_in).collect()
+}
+
+/// In a static slot, as in a dynamic one test (d) is missed too.
+fn kept_startup(random: &mut Random) -> Pair {
+    let slot = Scene::any_of(random, Kind::Static);
+    let good = slot.good(random).fields();
+    let with = |sync| {
+        let indicators = Indicators { sync, startup: true, ..good.indicators };
+        let header = HeaderNumbers { flags: indicators.flags(), ..HeaderNumbers::of(&good) };
+        holding(&slot, header.with_right_checksum())
+    };
+    Pair { clause: Clause::KeptStartupWithoutSync, slot, sound: with(true), unsound: with(false) }
+}
+
+/// Marks with "conflict" against the others, reason and frame beside them as they ask for.
+fn conflicts(random: &mut Random, marks: u8) -> Option<Pair> {
+    let right = with_conflict(marks);
+    if right == marks {
+        return None;
+    }
+    let slot = Scene::any(random);
+    let sound = slot.marked(random, right);
+    Some(Pair { clause: Clause::Conflict(marks), slot, sound, unsound: StatusNumbers { marks, ..sound } })
+}

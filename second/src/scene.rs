@@ -1,0 +1,199 @@
+//! A slot to be judged, with frames and statuses made for it: right for it, or wrong where a case asks for it.
+
+use std::ops::RangeInclusive;
+
+use crate::channel::Channel;
+use crate::draft::{fair_cycle, fair_words, Draft};
+use crate::faults::{faulty_bytes, other_words};
+use crate::frame::{Indicators, HIGHEST_CYCLE, HIGHEST_ID, MOST_WORDS};
+use crate::marks::Mark;
+use crate::random::Random;
+use crate::reason::Reason;
+use crate::refusal::Refusal;
+use crate::script::{Command, Opening};
+use crate::settings::{Settings, RANGES, STATIC_SLOTS, STATIC_WORDS};
+use crate::status_numbers::{HeaderNumbers, StatusNumbers};
+
+#[derive(Clone, Copy, Debug, PartialEq, Eq, PartialOrd, Ord)]
+pub enum Kind {
+    Static,
+    Dynamic,
+}
+
+impl Kind {
+    pub const BOTH: [Kind; 2] = [Kind::Static, Kind::Dynamic];
+
+    /// The tests that a frame can miss in such a slot.
+    pub fn tests(self) -> &'static [Reason] {
+        match self {
+            Kind::Static => &[Reason::Id, Reason::Cycle, Reason::StaticWords],
+            Kind::Dynamic => &[Reason::Id, Reason::Cycle, Reason::DynamicSync, Reason::DynamicNull],
+        }
+    }
+}
+
+#[derive(Clone, Copy, Debug)]
+pub struct Scene {
+    pub settings: Settings,
+    pub channel: Channel,
+    pub slot: u16,
+    pub cycle: u8,
+    /// What the slot is by its number; whoever makes the scene says so.
+    pub kind: Kind,
+}
+
+impl Scene {
+    /// A slot that opens, everything else at random.
+    pub fn fair(random: &mut Random, channel: Channel, kind: Kind) -> Scene {
+        let settings = fair_settings(random);
+        let last_static = settings.field(STATIC_SLOTS) as usize;
+        let slot = match kind {
+            Kind::Static => random.between(1, last_static),
+            Kind::Dynamic => random.between(last_static + 1, HIGHEST_ID.into()),
+        };
+        Scene { settings, channel, slot: slot as u16, cycle: fair_cycle(random), kind }
+    }
+
+    pub fn any(random: &mut Random) -> Scene {
+        let kind = random.pick(&Kind::BOTH);
+        Scene::any_of(random, kind)
+    }
+
+    pub fn any_of(random: &mut Random, kind: Kind) -> Scene {
+        let channel = random.pick(&Channel::BOTH);
+        Scene::fair(random, channel, kind)
+    }
+
+    /// Slot 1, which is static with every number of static slots.
+    pub fn first_slot(random: &mut Random) -> Scene {
+        Scene { slot: 1, ..Scene::any_of(random, Kind::Static) }
+    }
+
+    pub fn opening(&self) -> Opening {
+        Opening { settings: self.settings, channel: self.channel.number(), slot: self.slot, cycle: self.cycle }
+    }
+
+    pub fn open(&self) -> Command {
+        Command::OpenSlot(self.opening())
+    }
+
+    /// The status of the slot right after its opening.
+    pub fn fresh(&self) -> StatusNumbers {
+        StatusNumbers {
+            settings: self.settings,
+            channel: self.channel,
+            slot: self.slot,
+            cycle: self.cycle,
+            ..StatusNumbers::default()
+        }
+    }
+
+    /// The status with these marks, and with the reason and the frame that two of them ask for.
+    pub fn marked(&self, random: &mut Random, marks: u8) -> StatusNumbers {
+        let status = StatusNumbers { marks, ..self.fresh() };
+        let reason = if marks & Mark::ContentError.bit() == 0 { 0 } else { random.pick(&Reason::IN_ORDER).number() };
+        if marks & Mark::Valid.bit() == 0 {
+            return StatusNumbers { reason, ..status };
+        }
+        let header = HeaderNumbers::of(&self.good(random).fields());
+        StatusNumbers { reason, kept: true, header, ..status }
+    }
+
+    /// A frame that misses no test.
+    pub fn good(&self, random: &mut Random) -> Draft {
+        self.missing(random, &[])
+    }
+
+    /// A frame that misses the named tests and no other; all of them are tests of this kind of slot.
+    pub fn missing(&self, random: &mut Random, tests: &[Reason]) -> Draft {
+        let right_words = match self.kind {
+            Kind::Static => (self.settings.field(STATIC_WORDS) % (u32::from(MOST_WORDS) + 1)) as u8,
+            Kind::Dynamic => fair_words(random),
+        };
+        let wrong = |test| tests.contains(&test);
+        let words = if wrong(Reason::StaticWords) { other_words(random, right_words) } else { right_words };
+        let fair = Draft::fair(random, self.channel, words);
+        Draft {
+            id: if wrong(Reason::Id) { other_id(random, self.slot) } else { self.slot },
+            cycle: if wrong(Reason::Cycle) { other_cycle(random, self.cycle) } else { self.cycle },
+            indicators: self.indicators(random, fair.indicators, tests),
+            ..fair
+        }
+    }
+
+    fn indicators(&self, random: &mut Random, fair: Indicators, missed: &[Reason]) -> Indicators {
+        if self.kind == Kind::Static {
+            return fair;
+        }
+        let sync = missed.contains(&Reason::DynamicSync);
+        Indicators { sync, startup: sync && random.coin(), null_frame: !missed.contains(&Reason::DynamicNull), ..fair }
+    }
+
+    /// A frame that would be good if there were no cause for this read refusal.
+    pub fn refused(&self, random: &mut Random, refusal: Refusal) -> Vec<u8> {
+        let good = self.good(random);
+        faulty_bytes(random, good, &[refusal])
+    }
+
+    /// A frame that is good on the other channel.
+    pub fn strange(&self, random: &mut Random) -> Vec<u8> {
+        Scene { channel: self.channel.other(), ..*self }.good(random).bytes()
+    }
+}
+
+/// Settings in range, the ends of the ranges more often than chance would have it.
+fn fair_settings(random: &mut Random) -> Settings {
+    let fields = RANGES.map(|range| fair_value(random, &range));
+    let settings = Settings { fields, sends_sync: random.coin() };
+    // Few words as a rule, to keep scripts short.
+    settings.with_field(STATIC_WORDS, fair_words(random).into())
+}
+
+fn fair_value(random: &mut Random, range: &RangeInclusive<u32>) -> u32 {
+    let (lowest, highest) = (*range.start(), *range.end());
+    if random.one_in(4) {
+        return random.pick(&[lowest, lowest + 1, highest - 1, highest]);
+    }
+    random.between(lowest as usize, highest as usize) as u32
+}
+
+/// An ID in its range that isn't this one, as a rule one beside it.
+fn other_id(random: &mut Random, id: u16) -> u16 {
+    let near = [id.wrapping_add(1), id.wrapping_sub(1)];
+    let far = random.between(1, HIGHEST_ID.into()) as u16;
+    let fallback = if id == 1 { 2 } else { 1 };
+    let choice = if random.coin() { random.pick(&near) } else { far };
+    if choice == id || !(1..=HIGHEST_ID).contains(&choice) {
+        return fallback;
+    }
+    choice
+}
+
+/// A cycle in its range that isn't this one, as a rule one beside it.
+fn other_cycle(random: &mut Random, cycle: u8) -> u8 {
+    let last = usize::from(HIGHEST_CYCLE);
+    let step = if random.coin() { random.pick(&[1, last]) } else { random.between(1, last) };
+    ((usize::from(cycle) + step) % (last + 1)) as u8
+}
+
+#[cfg(test)]
+mod tests {
+    use super::*;
+    use crate::frame;
+
+    #[test]
+    fn frames_are_as_asked_for() {
+        let mut random = Random::from_seed(3);
+        for _ in 0..200 {
+            let scene = Scene::any(&mut random);
+            let channel = scene.channel.number();
+            let good = scene.good(&mut random);
+            assert_eq!((good.id, good.cycle), (scene.slot, scene.cycle));
+            assert_eq!(frame::read(channel, &good.bytes()), Ok(good.fields()));
+            let wrong = scene.missing(&mut random, scene.kind.tests());
+            assert!(wrong.id != scene.slot && wrong.cycle != scene.cycle);
+            assert_eq!(frame::read(channel, &wrong.bytes()), Ok(wrong.fields()));
+            assert_eq!(frame::read(channel, &scene.strange(&mut random)), Err(Refusal::FrameChecksum));
+        }
+    }
+}

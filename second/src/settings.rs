@@ -1,0 +1,89 @@
+//! The settings sheet and its ranges by 01 "Settings sheet".
+
+use std::ops::RangeInclusive;
+
+pub const FIELDS: usize = 11;
+
+/// Field 10: the words that every frame of a static slot has.
+pub const STATIC_WORDS: usize = 10;
+
+/// Field 11: the last static slot.
+pub const STATIC_SLOTS: usize = 11;
+
+/// 01 "Settings sheet": lowest and highest value of each field, field 1 first.
+pub const RANGES: [RangeInclusive<u32>; FIELDS] =
+    [0..=255, 0..=255, 0..=255, 2..=15, 0..=20_000, 0..=4_000, 0..=20, 0..=31, 0..=31, 0..=127, 2..=1023];
+
+/// Lowest and highest value of a field by its number.
+pub fn ends(field: usize) -> (u32, u32) {
+    let range = &RANGES[field - 1];
+    (*range.start(), *range.end())
+}
+
+#[derive(Clone, Copy, Debug, Default, PartialEq, Eq)]
+pub struct Settings {
+    pub fields: [u32; FIELDS],
+    pub sends_sync: bool,
+}
+
+impl Settings {
+    /// A field by its number, counted from 1 as 01 does.
+    pub fn field(&self, number: usize) -> u32 {
+        self.fields[number - 1]
+    }
+
+    pub fn with_field(mut self, number: usize, value: u32) -> Settings {
+        self.fields[number - 1] = value;
+        self
+    }
+
+    /// The number of the first field that is out of its range, if one is.
+    pub fn first_out_of_range(&self) -> Option<usize> {
+        let place = self.fields.iter().zip(&RANGES).position(|(value, range)| !range.contains(value))?;
+        Some(place + 1)
+    }
+}
+
+#[cfg(test)]
+mod tests {
+    use super::*;
+
+    /// The table of 01 once more, by field number.
+    const ENDS: [(usize, u32, u32); FIELDS] = [
+        (1, 0, 255),
+        (2, 0, 255),
+        (3, 0, 255),
+        (4, 2, 15),
+        (5, 0, 20000),
+        (6, 0, 4000),
+        (7, 0, 20),
+        (8, 0, 31),
+        (9, 0, 31),
+        (10, 0, 127),
+        (11, 2, 1023),
+    ];
+
+    fn lowest() -> Settings {
+        Settings { fields: ENDS.map(|(_, lowest, _)| lowest), sends_sync: false }
+    }
+
+    #[test]
+    fn the_ends_of_every_range_are_taken_and_nothing_beyond() {
+        for (field, lowest_value, highest_value) in ENDS {
+            let with = |value| lowest().with_field(field, value).first_out_of_range();
+            assert_eq!((with(lowest_value), with(highest_value)), (None, None));
+            assert_eq!((with(highest_value + 1), with(u32::MAX)), (Some(field), Some(field)));
+            let below = lowest_value.checked_sub(1);
+            assert_eq!(below.and_then(with), below.map(|_| field));
+        }
+    }
+
+    #[test]
+    fn the_first_of_several_fields_is_told() {
+        for (first, _, highest) in ENDS {
+            let later = (first..=FIELDS).fold(lowest(), |settings, field| settings.with_field(field, u32::MAX));
+            assert_eq!(later.with_field(first, highest + 1).first_out_of_range(), Some(first));
+        }
+        assert_eq!(Settings::default().first_out_of_range(), Some(4));
+    }
+}

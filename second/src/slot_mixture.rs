@@ -1,0 +1,167 @@
+//! Slot commands at random: lifelike histories on slots that were opened and on statuses that were put.
+
+use crate::faults::{faulty_opening, some_faults, wrong_value};
+use crate::frame::Fields;
+use crate::history::{with_conflict, Happening};
+use crate::mixture::{any_size, damaged};
+use crate::random::Random;
+use crate::reason::Reason;
+use crate::refusal::OPEN_SLOT_ORDER;
+use crate::scene::Scene;
+use crate::script::Command;
+use crate::settings::{Settings, FIELDS};
+use crate::slot_note::Sort;
+use crate::status_numbers::{HeaderNumbers, StatusNumbers};
+
+const MOST_EVENTS: usize = 8;
+
+/// One slot from its opening on, or from a status put in its place; the status is shown after most events.
+pub fn episode(random: &mut Random) -> Vec<Command> {
+    let scene = Scene::any(random);
+    let mut commands = vec![start(random, &scene), Command::Show];
+    for _ in 0..random.between(1, MOST_EVENTS) {
+        commands.push(event(random, &scene));
+        if !random.one_in(5) {
+            commands.push(Command::Show);
+        }
+    }
+    commands
+}
+
+/// Seven in ten are sound.
+fn start(random: &mut Random, scene: &Scene) -> Command {
+    match random.below(20) {
+        0..=8 => scene.open(),
+        9 | 10 => opening_with_some_faults(random),
+        11..=15 => Command::PutStatus(sound(random, scene)),
+        16..=18 => Command::PutStatus(changed(random, scene)),
+        _ => Command::PutStatus(wild(random)),
+    }
+}
+
+fn opening_with_some_faults(random: &mut Random) -> Command {
+    let faults = some_faults(random, &OPEN_SLOT_ORDER);
+    Command::OpenSlot(faulty_opening(random, &faults))
+}
+
+fn event(random: &mut Random, scene: &Scene) -> Command {
+    match random.below(20) {
+        0..=5 => Happening::Good(scene.good(random)).command(),
+        6..=8 => frame_with_some_misses(random, scene),
+        9 | 10 => {
+            let good = scene.good(random);
+            Command::Arrived(damaged(random, &good))
+        }
+        11 => Command::Arrived(scene.strange(random)),
+        12 => random_bytes(random),
+        13 => Happening::any(random, scene, Sort::NoBytes).command(),
+        14 | 15 => Happening::any(random, scene, Sort::Refused).command(),
+        16 | 17 => Command::Boundary,
+        _ => Command::OwnSending,
+    }
+}
+
+fn frame_with_some_misses(random: &mut Random, scene: &Scene) -> Command {
+    let tests: Vec<Reason> = scene.kind.tests().iter().copied().filter(|_| random.one_in(3)).collect();
+    Command::Arrived(scene.missing(random, &tests).bytes())
+}
+
+fn random_bytes(random: &mut Random) -> Command {
+    let size = any_size(random);
+    Command::Arrived(random.bytes(size))
+}
+
+/// Any marks, with "conflict" right and with a reason and a frame where they ask for them.
+fn sound(random: &mut Random, scene: &Scene) -> StatusNumbers {
+    let marks = with_conflict(random.below(64) as u8);
+    scene.marked(random, marks)
+}
+
+/// A sound status with one thing changed, which leaves it sound or not.
+fn changed(random: &mut Random, scene: &Scene) -> StatusNumbers {
+    let sound = sound(random, scene);
+    match random.below(12) {
+        0 | 1 => StatusNumbers { marks: sound.marks ^ one_bit(random, 8) as u8, ..sound },
+        2 => StatusNumbers { reason: random.below(6) as u8, ..sound },
+        3 => StatusNumbers { kept: !sound.kept, ..sound },
+        4 => StatusNumbers { slot: sound.slot ^ one_bit(random, 12), ..sound },
+        5 => StatusNumbers { cycle: sound.cycle ^ one_bit(random, 7) as u8, ..sound },
+        6 => StatusNumbers { channel: sound.channel.other(), ..sound },
+        7 => StatusNumbers { settings: with_other_field(random, sound.settings), ..sound },
+        8 => StatusNumbers { header: with_other_number(random, sound.header), ..sound },
+        9 => StatusNumbers { header: with_other_number(random, sound.header).with_right_checksum(), ..sound },
+        10 => StatusNumbers { header: HeaderNumbers::of(&missing_one(random, scene)), ..sound },
+        _ => StatusNumbers { header: HeaderNumbers::of(&scene.good(random).fields()), ..sound },
+    }
+}
+
+fn missing_one(random: &mut Random, scene: &Scene) -> Fields {
+    let test = random.pick(scene.kind.tests());
+    scene.missing(random, &[test]).fields()
+}
+
+fn one_bit(random: &mut Random, width: usize) -> u16 {
+    1 << random.below(width)
+}
+
+/// A field at another value, in its range or out of it.
+fn with_other_field(random: &mut Random, settings: Settings) -> Settings {
+    let field = random.between(1, FIELDS);
+    let value = if random.coin() { wrong_value(random, field) } else { Scene::any(random).settings.field(field) };
+    settings.with_field(field, value)
+}
+
+fn with_other_number(random: &mut Random, header: HeaderNumbers) -> HeaderNumbers {
+    match random.below(5) {
+        0 => HeaderNumbers { flags: header.flags ^ one_bit(random, 8) as u8, ..header },
+        1 => HeaderNumbers { id: header.id ^ one_bit(random, 12), ..header },
+        2 => HeaderNumbers { words: header.words ^ one_bit(random, 8) as u8, ..header },
+        3 => HeaderNumbers { checksum: header.checksum ^ one_bit(random, 16), ..header },
+        _ => HeaderNumbers { cycle: header.cycle ^ one_bit(random, 8) as u8, ..header },
+    }
+}
+
+/// Every number at random, the settings in range or not.
+fn wild(random: &mut Random) -> StatusNumbers {
+    let scene = Scene::any(random);
+    let fields = [(); FIELDS].map(|_| random.below(1 << 32) as u32);
+    let settings = if random.coin() { scene.settings } else { Settings { fields, ..scene.settings } };
+    let header = HeaderNumbers {
+        flags: random.below(256) as u8,
+        id: random.below(0x1_0000) as u16,
+        words: random.below(256) as u8,
+        checksum: random.below(0x1_0000) as u16,
+        cycle: random.below(256) as u8,
+    };
+    StatusNumbers {
+        settings,
+        channel: scene.channel,
+        slot: random.below(0x1_0000) as u16,
+        cycle: random.below(256) as u8,
+        marks: random.below(256) as u8,
+        reason: random.below(6) as u8,
+        kept: random.coin(),
+        header,
+    }
+}
+
+#[cfg(test)]
+mod tests {
+    use super::*;
+    use crate::replay::Replay;
+
+    /// At least half of the events are accepted, and some of every sort are refused.
+    #[test]
+    fn most_events_are_accepted() {
+        let mut random = Random::from_seed(9);
+        let mut script = Vec::new();
+        for _ in 0..300 {
+            episode(&mut random).iter().for_each(|command| command.append_to(&mut script));
+        }
+        let lines: Vec<String> = Replay::of(&script).map(|outcome| outcome.line()).collect();
+        let count = |line: &str| lines.iter().filter(|other| *other == line).count();
+        assert!(count("event 0") > count("event 23"));
+        assert!(count("event 23") > 100);
+        assert!(lines.iter().all(|line| !line.starts_with("script error")));
+    }
+}
