@@ -11,19 +11,19 @@ mod reading;
 mod round_trips;
 mod sizes;
 mod soundness;
+mod undisturbed;
 mod unlooked;
 mod writing;
 
 use crate::mixture;
 use crate::plan::{Expected, Plan};
 use crate::random::Random;
-use crate::slot_mixture;
 
 /// Fixed, so that the script is the same at every run.
 const SEED: u64 = 0x01_0019_0262;
 
 const RANDOM_COMMANDS: usize = 5000;
-const RANDOM_EPISODES: usize = 200;
+const RANDOM_STRETCHES: usize = 200;
 
 pub fn all() -> Plan {
     let mut random = Random::from_seed(SEED);
@@ -36,13 +36,14 @@ pub fn all() -> Plan {
     writing::add(&mut plan, &mut random);
     round_trips::add(&mut plan, &mut random);
     add_mixture(&mut plan, &mut random);
-    // Behind everything about frames, whose commands keep their places; the first of these finds no slot opened.
+    // Behind everything about frames alone, whose commands keep their places; the first of these finds no slot opened.
     histories::add(&mut plan, &mut random);
     misses::add(&mut plan, &mut random);
     borders::add(&mut plan, &mut random);
     openings::add(&mut plan, &mut random);
     soundness::add(&mut plan, &mut random);
     unlooked::add(&mut plan, &mut random);
+    undisturbed::add(&mut plan, &mut random);
     add_slot_mixture(&mut plan, &mut random);
     plan
 }
@@ -54,8 +55,8 @@ fn add_mixture(plan: &mut Plan, random: &mut Random) {
 }
 
 fn add_slot_mixture(plan: &mut Plan, random: &mut Random) {
-    for _ in 0..RANDOM_EPISODES {
-        for command in slot_mixture::episode(random) {
+    for _ in 0..RANDOM_STRETCHES {
+        for command in mixture::stretch(random) {
             plan.add(command, Expected::Anything);
         }
     }

@@ -24,6 +24,12 @@ pub fn some_faults(random: &mut Random, order: &[Refusal]) -> Vec<Refusal> {
     order.iter().copied().filter(|_| random.one_in(6)).collect()
 }
 
+/// A frame checksum, which can be refused for its channel only.
+pub fn faulty_checksum(random: &mut Random, faults: &[Refusal]) -> Command {
+    let channel = random.pick(&Channel::BOTH);
+    Command::checksum(channel_number(random, channel, faults), &random.bytes(5))
+}
+
 /// A read in which each of the named refusals has a cause.
 pub fn faulty_read(random: &mut Random, faults: &[Refusal]) -> Command {
     let channel = random.pick(&Channel::BOTH);

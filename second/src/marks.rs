@@ -2,6 +2,9 @@
 
 use std::collections::BTreeSet;
 
+/// All six marks in the script's number.
+pub const NAMED_MARKS: u8 = 0b11_1111;
+
 #[derive(Clone, Copy, Debug, PartialEq, Eq, PartialOrd, Ord)]
 pub enum Mark {
     SyntaxError,
@@ -52,7 +55,7 @@ mod tests {
     #[test]
     fn numbers_go_there_and_back() {
         for number in 0..=255 {
-            assert_eq!(Marks::from_number(number).number(), number & 0b11_1111);
+            assert_eq!(Marks::from_number(number).number(), number & NAMED_MARKS);
         }
         let alone = Mark::IN_ORDER.map(|mark| Marks(BTreeSet::from([mark])).number());
         assert_eq!(alone, [1, 2, 4, 8, 16, 32]);

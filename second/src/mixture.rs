@@ -24,7 +24,7 @@ pub fn script(seed: u64, count: usize) -> Vec<u8> {
 }
 
 /// What happens to one slot, with as many frame commands strewn in, which leave the slot alone.
-fn stretch(random: &mut Random) -> Vec<Command> {
+pub fn stretch(random: &mut Random) -> Vec<Command> {
     let mut commands = Vec::new();
     for command in slot_mixture::episode(random) {
         commands.push(command);

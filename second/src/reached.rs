@@ -2,7 +2,7 @@
 
 mod slots;
 
-use std::collections::BTreeMap;
+use std::collections::{BTreeMap, BTreeSet};
 
 use crate::channel::Channel;
 use crate::frame::{Fields, Indicators, HIGHEST_CYCLE, HIGHEST_ID, LARGEST_FRAME, SMALLEST_FRAME};
@@ -46,6 +46,8 @@ pub enum Reach {
     CycleNotOpened(u8),
     /// Marks shown where nothing but events followed an opening.
     MarksFromOpening(Channel, u8),
+    /// Letter and number of an answer about a frame, after which the status that was held is shown, and has marks.
+    StatusStayed(char, u8),
     Noted(Note),
     ScriptError,
 }
@@ -55,6 +57,8 @@ pub struct Reached {
     counts: BTreeMap<Reach, usize>,
     /// The status held comes from an opening, and was not put.
     from_opening: bool,
+    /// Letters and numbers of the answers about frames since the last command that can change the status.
+    about_frames: BTreeSet<(char, u8)>,
 }
 
 impl Reached {
@@ -95,6 +99,7 @@ impl Reached {
             return self.add(Reach::ScriptError);
         };
         self.add(Reach::Answer(command.letter(), answer.number()));
+        self.follow_status(command, answer);
         match command {
             Command::Checksum(given) => self.add_channel('F', given.channel),
             Command::Read(given) => self.add_read(given, answer),

@@ -5,7 +5,7 @@ use std::ops::RangeInclusive;
 use crate::channel::Channel;
 use crate::draft::{fair_cycle, fair_words, Draft};
 use crate::faults::{faulty_bytes, other_words};
-use crate::frame::{Indicators, HIGHEST_CYCLE, HIGHEST_ID, MOST_WORDS};
+use crate::frame::{Indicators, HIGHEST_CYCLE, HIGHEST_ID};
 use crate::marks::Mark;
 use crate::random::Random;
 use crate::reason::Reason;
@@ -107,7 +107,7 @@ impl Scene {
     /// A frame that misses the named tests and no other; all of them are tests of this kind of slot.
     pub fn missing(&self, random: &mut Random, tests: &[Reason]) -> Draft {
         let right_words = match self.kind {
-            Kind::Static => (self.settings.field(STATIC_WORDS) % (u32::from(MOST_WORDS) + 1)) as u8,
+            Kind::Static => self.settings.field(STATIC_WORDS) as u8,
             Kind::Dynamic => fair_words(random),
         };
         let wrong = |test| tests.contains(&test);

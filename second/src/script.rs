@@ -280,6 +280,7 @@ mod tests {
         assert_eq!(rest.take_command(), Some(Command::read(255, &[])));
         assert!(rest.is_empty());
     }
+
     /// Fields 1 to 11 as 0x04030201, 0x08070605 and so on, and the switch.
     fn settings_by_hand() -> (Vec<u8>, Settings) {
         let script: Vec<u8> = (1..=44).chain([1]).collect();

@@ -5,6 +5,12 @@ use crate::reason::Reason;
 use crate::refusal::Refusal;
 use crate::scene::Kind;
 
+/// The values of field 11 at whose border slots are judged: the ends of its range, those beside them and one between.
+pub const BORDERS: [u16; 5] = [2, 3, 500, 1022, 1023];
+
+/// All ways in which null frame, sync and startup bit can stand, a read refusing startup without sync.
+pub const LOOKS: [u8; 6] = [0b00000, 0b00100, 0b01000, 0b01100, 0b11000, 0b11100];
+
 /// Sorts of what can happen in a slot.
 #[derive(Clone, Copy, Debug, PartialEq, Eq, PartialOrd, Ord)]
 pub enum Sort {
@@ -107,4 +113,6 @@ pub enum SlotNote {
     UnnamedFlag(u8),
     /// The place of a number, behind a kept switch of 0, that isn't 0.
     BehindKept(usize),
+    /// The arrival that left the status, and whether the frame commands between its two showings were accepted.
+    FramesBetween(Sort, bool),
 }

@@ -2,12 +2,11 @@
 
 use crate::channel::Channel;
 use crate::frame::{Fields, Indicators};
-use crate::marks::Marks;
+use crate::marks::{Marks, NAMED_MARKS};
 use crate::reason::Reason;
 use crate::settings::Settings;
 use crate::slot::SlotStatus;
 
-const NAMED_MARKS: u8 = 0b11_1111;
 const NAMED_FLAGS: u8 = 0b1_1111;
 
 /// The fields of a kept frame.

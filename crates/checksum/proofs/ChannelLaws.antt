@@ -4,8 +4,9 @@ use mathlib.Core.Path.{_≡_, refl, sym, ap, _∙_}
 use mathlib.Core.Bool.{Bool, true, false, cond}
 use native.Mathlib.Omega.{arith}
 use Rattle.checksum.specs.declared.Channel.{Channel}
+use Rattle.checksum.specs.declared.Channel.the-variants.{A, B}
 use Rattle.checksum.specs.declared.Named.the-variants.{Is, NotAChannel}
-use Rattle.checksum.specs.Channel.{notAChannel, channelOf, namedBy}
+use Rattle.checksum.specs.Channel.{notAChannel, channelOf, numberOf, namedBy}
 
 picked-is : (b : Bool) (d c : Channel) → cond b NotAChannel (Is d) ≡ Is c → (b ≡ false) × (d ≡ c)
 picked-is false d c e = (refl, cc)
@@ -27,6 +28,12 @@ named-not number e = picked-not (notAChannel number) (channelOf number) e
 pub is-named : (number : ℕ) → notAChannel number ≡ false → namedBy number ≡ Is (channelOf number)
 unfolding namedBy
 is-named number e = ap (λ (b : Bool). cond b NotAChannel (Is (channelOf number))) e
+
+-- a channel has a number that names it
+pub is-a-channel : (channel : Channel) → notAChannel (numberOf channel) ≡ false
+unfolding notAChannel
+is-a-channel A = refl
+is-a-channel B = refl
 
 -- of one number there is one channel
 pub one-channel : (number : ℕ) (a b : Channel) → namedBy number ≡ Is a → namedBy number ≡ Is b → a ≡ b

@@ -15,6 +15,11 @@ notAChannel number = not (eqb number 0) && not (eqb number 1)
 unfoldable pub channelOf : ℕ → Channel
 channelOf number = cond (eqb number 0) A B
 
+-- The number that names a channel.
+abbrev pub numberOf : Channel → ℕ
+numberOf A = 0
+numberOf B = 1
+
 -- "Start value 0xFEDCBA on channel A and 0xABCDEF on channel B".
 abbrev pub startOf : Channel → ℕ
 startOf A = 0xFEDCBA

@@ -8,7 +8,7 @@ ghost use mathlib.Core.List.{[], _∷_};
 ghost use Prim.Native.Nat.{_<_, _≤_, _^_, min};
 ghost use Rattle.division.specs.Bits.{bits, bytesBits};
 ghost use Rattle.division.specs.Division.{Fed};
-ghost use Rattle.checksum.specs.Channel.{startOf, namedBy};
+ghost use Rattle.checksum.specs.Channel.{numberOf, startOf, namedBy};
 ghost use Rattle.checksum.specs.Checksums.{headerDivision, framePolynomial, frameChecksum};
 ghost use Rattle.checksum.specs.FrameChecksum.{told, FrameChecksumSays};
 
@@ -38,7 +38,7 @@ impl Channel {
         }
     }
 
-    // The one place where a channel is a number.
+    // A channel is a number here and in `number`, and nowhere else.
     pub fn named(number: u8) -> Named
         ensures { λ r. ⌜ r ≡ namedBy number ⌝ }
     {
@@ -49,6 +49,15 @@ impl Channel {
             return Named::Is(Channel::B);
         }
         Named::NotAChannel
+    }
+
+    pub fn number(self) -> u8
+        ensures { λ r. ⌜ r ≡ numberOf self ⌝ }
+    {
+        match self {
+            Channel::A => 0,
+            Channel::B => 1,
+        }
     }
 }
 

@@ -9,6 +9,10 @@ use Rattle.checksum.specs.declared.Channel.{Channel}
 use Rattle.checksum.specs.Checksums.{headerChecksum, frameDivision}
 use Rattle.frame.specs.declared.header.Header.{Header}
 
+-- "payload length in 2-byte words, 0 to 127".
+abbrev pub mostWords : ℕ
+mostWords = 127
+
 -- The table of 01: five indicators of one bit, 11 bits of frame ID, 7 of payload length, 11 of header checksum, 6 of cycle.
 abbrev pub wholeHeader : Header → List Bool
 wholeHeader h =
@@ -38,8 +42,8 @@ pub record Frame (channel : Channel) (bytes : List ℕ) (header : Header) (paylo
   pub checksum : header .checksum ≡ headerChecksumOf header
   -- "frame ID, 1 to 2047".
   pub id : (1 ≤ header .id .0) × (header .id .0 ≤ 2047)
-  -- "payload length in 2-byte words, 0 to 127", which is the payload's.
-  pub words : header .words ≤ 127
+  -- The payload length, in words, which is the payload's.
+  pub words : header .words ≤ mostWords
   pub payloadLength : length payload ≡ 2 * header .words
   -- "cycle, 0 to 63".
   pub cycle : header .cycle .0 ≤ 63

@@ -38,6 +38,9 @@ pub struct Fields {
 }
 
 impl Header {
+    // The highest payload length, in words.
+    pub const MOST_WORDS: u8 = 127;
+
     // All zeros, all flags clear: what stands beside a refusal.
     pub const NONE: Header = Header {
         reserved: false,

@@ -1,8 +1,8 @@
 // Frames read from bytes and written into them (document 01, "Frame layout").
 //
 // Entries: `read` and `payload` on a channel number and bytes, `write` on a channel number, fields, payload and lent output.
-// For the crates above: `read_on` for a channel that is known to be one, `part` for a frame that has been read already, and
-// the types that keep slot and cycle numbers apart.
+// For the crates above: `read_on` for a channel that is known to be one, `part` for a frame that has been read already, the types
+// that keep slot and cycle numbers apart, and what a header is tested by (`checksum_due`, `startup_without_sync`).
 mod header;
 mod reader;
 mod writer;

@@ -115,6 +115,7 @@ fn header_of(fields: Fields, words: u8) -> Header
         checksum: 0,
         cycle,
     };
+    // The prover takes no call whose result goes into a field of what it is given.
     let due = header.checksum_due();
     header.checksum = due;
     header

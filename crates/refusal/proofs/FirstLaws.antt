@@ -1,10 +1,12 @@
 -- `first` is told by the order, and nothing else is: what every entry cites for its number.
 use Prim.Native.Nat.{ℕ, zero, suc}
 use mathlib.Core.Path.{_≡_, refl, ap, _∙_}
-use mathlib.Core.Bool.{Bool, true, false, false≢true}
+use mathlib.Core.Bool.{Bool, true, false, false≢true, not}
 use mathlib.Core.List.{List, [], _∷_, _++_, List·Memᴰ, List·Memᴰ·head, List·Memᴰ·tail}
 use mathlib.Core.Logic.{_⊎_, inl, inr}
 use native.Mathlib.Omega.{arith}
+use borrow.Author.Tests.{ne-eqb}
+use lib.Dec.{eqb}
 use Rattle.refusal.specs.Refusal.{Line, _when_, first, ifAccepted, noneHolds, numbers, numbered, FirstAt, InOrder}
 
 -- ---- one line of the list
@@ -23,6 +25,12 @@ first-here n l e = ap (λ (b : Bool). first (n when b ∷ l)) e
 pub first-end : first [] ≡ 0
 unfolding first
 first-end = refl
+
+-- one line is left: it decides
+pub first-last : (n : ℕ) (c : Bool) → eqb (first (suc n when c ∷ [])) 0 ≡ not c
+unfolding first
+first-last n true = ne-eqb (suc n) 0 (λ e. omega arith)
+first-last n false = refl
 
 -- nothing is refused: the first condition does not hold, and none of the rest
 pub first-zero : (n : ℕ) (c : Bool) (l : List Line) → first (suc n when c ∷ l) ≡ 0 → (c ≡ false) × (first l ≡ 0)

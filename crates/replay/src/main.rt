@@ -6,10 +6,11 @@ mod script;
 mod sheet;
 mod slots;
 mod statuses;
+mod turn;
 
 use script::Start;
 use slot::Status;
-use slots::Turn;
+use turn::Turn;
 
 // Plays the command with this letter, with the status that is held.
 fn play(letter: u8, status: Status) -> Turn {
@@ -23,7 +24,7 @@ fn play(letter: u8, status: Status) -> Turn {
         b'X' => slots::sent(status),
         b'T' => statuses::put(status),
         b'D' => statuses::show(status),
-        _ => slots::script_error(status),
+        _ => Turn::script_error(status),
     }
 }
 

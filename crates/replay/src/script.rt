@@ -92,8 +92,11 @@ pub fn take_on_channel(space: &mut [u8]) -> OnChannel
         return NOTHING_TAKEN;
     }
     let size = take_bytes(space);
+    if size.is_script_error {
+        return NOTHING_TAKEN;
+    }
     OnChannel {
-        is_script_error: size.is_script_error,
+        is_script_error: false,
         channel: channel[0],
         bytes: size.bytes,
     }
@@ -105,13 +108,20 @@ pub struct Field {
     pub value: u32,
 }
 
+const NO_FIELD: Field = Field {
+    is_script_error: true,
+    value: 0,
+};
+
 pub fn take_field() -> Field {
     let mut item = [0u8; 4];
-    let is_script_error = !take(&mut item);
+    if !take(&mut item) {
+        return NO_FIELD;
+    }
     let low = number(item[0], item[1]);
     let high = number(item[2], item[3]);
     Field {
-        is_script_error,
+        is_script_error: false,
         value: high as u32 * 65536 + low as u32,
     }
 }

@@ -9,11 +9,6 @@ pub struct Sheet {
     pub settings: Settings,
 }
 
-const SCRIPT_ERROR: Sheet = Sheet {
-    is_script_error: true,
-    settings: Settings::NONE,
-};
-
 // Takes eleven numbers and a switch.
 pub fn take() -> Sheet {
     let mut fields = [0u32; settings::FIELDS];
@@ -21,17 +16,17 @@ pub fn take() -> Sheet {
     while i < settings::FIELDS {
         let field = script::take_field();
         if field.is_script_error {
-            return SCRIPT_ERROR;
+            return script_error();
         }
         fields[i] = field.value;
         i += 1;
     }
     let mut switch = [0u8; 1];
     if !script::take(&mut switch) {
-        return SCRIPT_ERROR;
+        return script_error();
     }
     if script::is_no_switch(switch[0]) {
-        return SCRIPT_ERROR;
+        return script_error();
     }
     Sheet {
         is_script_error: false,
@@ -39,6 +34,13 @@ pub fn take() -> Sheet {
             fields,
             sends_sync: switch[0] == 1,
         },
+    }
+}
+
+fn script_error() -> Sheet {
+    Sheet {
+        is_script_error: true,
+        settings: Settings::none(),
     }
 }
 

@@ -3,49 +3,29 @@
 use crate::line;
 use crate::script;
 use crate::sheet;
+use crate::turn::Turn;
 use frame::Cycle;
 use frame::Slot;
 use slot::Judged;
 use slot::Opened;
 use slot::Status;
 
-// What a command leaves.
-pub struct Turn {
-    pub is_script_error: bool,
-    pub status: Status,
-}
-
-// The status to hold.
-pub fn held(status: Status) -> Turn {
-    Turn {
-        is_script_error: false,
-        status,
-    }
-}
-
-pub fn script_error(status: Status) -> Turn {
-    Turn {
-        is_script_error: true,
-        status,
-    }
-}
-
 // `S`: settings, channel, slot, cycle.
 pub fn open_slot(status: Status) -> Turn {
     let taken = sheet::take();
     if taken.is_script_error {
-        return script_error(status);
+        return Turn::script_error(status);
     }
     // The slot has two bytes.
     let mut item = [0u8; 4];
     if !script::take(&mut item) {
-        return script_error(status);
+        return Turn::script_error(status);
     }
     let slot = Slot(script::number(item[1], item[2]));
     let cycle = Cycle(item[3]);
     let opened = slot::open_slot(taken.settings, item[0], slot, cycle);
     answer_opening(opened);
-    held(opened.status)
+    Turn::played(opened.status)
 }
 
 // `slot N FIELD`
@@ -63,7 +43,7 @@ pub fn arrived(status: Status) -> Turn {
     let mut space = [0u8; script::MOST];
     let size = script::take_bytes(&mut space);
     if size.is_script_error {
-        return script_error(status);
+        return Turn::script_error(status);
     }
     let end = size.bytes;
     answer_event(slot::arrived(status, &space[0..end]))
@@ -86,5 +66,5 @@ fn answer_event(judged: Judged) -> Turn {
     let at = line::put(&mut line, 0, b"event");
     let at = line::decimal(&mut line, at, answer.number() as u64);
     line::end(&mut line, at);
-    held(judged.status)
+    Turn::played(judged.status)
 }

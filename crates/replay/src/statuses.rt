@@ -3,9 +3,9 @@ use crate::frames;
 use crate::line;
 use crate::script;
 use crate::sheet;
-use crate::slots;
-use crate::slots::Turn;
+use crate::turn::Turn;
 use checksum::Channel;
+use checksum::Named;
 use frame::Cycle;
 use frame::Header;
 use frame::Slot;
@@ -17,28 +17,29 @@ use slot::Status;
 pub fn put(status: Status) -> Turn {
     let taken = sheet::take();
     if taken.is_script_error {
-        return slots::script_error(status);
+        return Turn::script_error(status);
     }
     // Slot, ID and checksum have two bytes.
     let mut item = [0u8; 14];
     if !script::take(&mut item) {
-        return slots::script_error(status);
+        return Turn::script_error(status);
     }
-    if script::is_no_switch(item[0]) {
-        return slots::script_error(status);
-    }
+    // The switch of a channel is its number.
+    let Named::Is(channel) = Channel::named(item[0]) else {
+        return Turn::script_error(status);
+    };
     if 5 < item[5] {
-        return slots::script_error(status);
+        return Turn::script_error(status);
     }
     if script::is_no_switch(item[6]) {
-        return slots::script_error(status);
+        return Turn::script_error(status);
     }
     let marks = item[4];
     let settings = taken.settings;
     answer_put();
-    slots::held(Status {
+    Turn::played(Status {
         settings,
-        channel: channel_of(item[0]),
+        channel,
         slot: Slot(script::number(item[1], item[2])),
         cycle: Cycle(item[3]),
         syntax_error: marks % 2 == 1,
@@ -59,13 +60,6 @@ fn answer_put() {
     line::end(&mut line, at);
 }
 
-fn channel_of(switch: u8) -> Channel {
-    if switch == 0 {
-        return Channel::A;
-    }
-    Channel::B
-}
-
 fn reason_of(number: u8) -> Reason {
     match number {
         1 => Reason::OtherId,
@@ -77,7 +71,7 @@ fn reason_of(number: u8) -> Reason {
     }
 }
 
-// The kept frame of a status, by the bytes from its switch on.
+// The kept frame of a status that is put.
 fn kept_of(item: [u8; 14]) -> Kept {
     if item[6] == 0 {
         return Kept::Nothing;
@@ -106,21 +100,14 @@ pub fn show(status: Status) -> Turn {
     let mut line = [0u8; line::ROOM];
     let at = line::put(&mut line, 0, b"status");
     let at = sheet::put(&mut line, at, status.settings);
-    let at = line::decimal(&mut line, at, switch_of(channel));
+    let at = line::decimal(&mut line, at, channel.number() as u64);
     let at = line::decimal(&mut line, at, status.slot.0 as u64);
     let at = line::decimal(&mut line, at, status.cycle.0 as u64);
     let at = line::decimal(&mut line, at, marks_of(status));
     let at = line::decimal(&mut line, at, number_of(reason));
     let at = put_kept(&mut line, at, kept);
     line::end(&mut line, at);
-    slots::held(status)
-}
-
-fn switch_of(channel: Channel) -> u64 {
-    match channel {
-        Channel::A => 0,
-        Channel::B => 1,
-    }
+    Turn::played(status)
 }
 
 fn number_of(reason: Reason) -> u64 {

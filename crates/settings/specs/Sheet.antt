@@ -1,6 +1,6 @@
 -- The settings sheet (01, "Settings sheet"): the fields by their names, the range of each, and the first field out of its range.
 use Prim.Native.Nat.{ℕ, suc, _-_}
-use mathlib.Core.Bool.{Bool, false, _&&_, cond}
+use mathlib.Core.Bool.{Bool, false, not, _&&_, cond}
 use mathlib.Core.List.{List, [], _∷_}
 use lib.Dec.{leb, eqb}
 use lib.ListN.{getD, replicate}
@@ -8,6 +8,10 @@ use Rattle.settings.specs.declared.Range.{Range}
 use Rattle.settings.specs.declared.Settings.{Settings}
 
 -- ---- the fields
+
+-- How many fields have a range.
+abbrev pub fieldCount : ℕ
+fieldCount = 11
 
 -- The field with a number, which counts from 1.
 abbrev pub field : ℕ → Settings → ℕ
@@ -82,6 +86,10 @@ firstOutside number (range ∷ ranges) (value ∷ values) = cond (within range v
 abbrev pub firstOutOfRange : Settings → ℕ
 firstOutOfRange s = firstOutside 1 ranges (s .fields)
 
+-- 17: "a setting out of range".
+abbrev pub outOfRange : Settings → Bool
+outOfRange s = not (eqb (firstOutOfRange s) 0)
+
 -- All zeros, the yes or no "no": what comes back beside a refusal.
 abbrev pub noSettings : Settings
-noSettings = record { fields = replicate 11 0; «sends_sync» = false }
+noSettings = record { fields = replicate fieldCount 0; «sends_sync» = false }

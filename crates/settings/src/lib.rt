@@ -4,7 +4,7 @@
 // and opening refuse a sheet.
 ghost use mathlib.Core.Path.{_≡_};
 ghost use Prim.Native.Nat.{_<_, _≤_};
-ghost use Rattle.settings.specs.Sheet.{within, field as Sheet·field, firstOutOfRange, decodingCorrection, delayA, delayB, syncIdLimit, offsetLimit, rateLimit, driftDamping, externalOffsetUnit, externalRateUnit, staticPayloadWords, staticSlots};
+ghost use Rattle.settings.specs.Sheet.{fieldCount, within, noSettings, field as Sheet·field, firstOutOfRange, decodingCorrection, delayA, delayB, syncIdLimit, offsetLimit, rateLimit, driftDamping, externalOffsetUnit, externalRateUnit, staticPayloadWords, staticSlots};
 
 // How many fields have a range.
 pub const FIELDS: usize = 11;
@@ -22,47 +22,58 @@ pub struct Range {
 }
 
 // The range of each field, field 1 first.
-pub const RANGES: [Range; FIELDS] = [
+const RANGES: [Range; FIELDS] = [
+    // Decoding correction
     Range {
         lowest: 0,
         highest: 255,
     },
+    // Delay A
     Range {
         lowest: 0,
         highest: 255,
     },
+    // Delay B
     Range {
         lowest: 0,
         highest: 255,
     },
+    // Sync ID limit
     Range {
         lowest: 2,
         highest: 15,
     },
+    // Offset limit
     Range {
         lowest: 0,
         highest: 20_000,
     },
+    // Rate limit
     Range {
         lowest: 0,
         highest: 4_000,
     },
+    // Drift damping
     Range {
         lowest: 0,
         highest: 20,
     },
+    // External offset unit
     Range {
         lowest: 0,
         highest: 31,
     },
+    // External rate unit
     Range {
         lowest: 0,
         highest: 31,
     },
+    // Static payload words
     Range {
         lowest: 0,
         highest: 127,
     },
+    // Static slots
     Range {
         lowest: 2,
         highest: 1_023,
@@ -83,10 +94,14 @@ impl Range {
 
 impl Settings {
     // All zeros: what stands beside a refusal.
-    pub const NONE: Settings = Settings {
-        fields: [0; FIELDS],
-        sends_sync: false,
-    };
+    pub fn none() -> Settings
+        ensures { λ r. ⌜ r ≡ noSettings ⌝ }
+    {
+        Settings {
+            fields: [0; FIELDS],
+            sends_sync: false,
+        }
+    }
 
     // The number of the first field out of its range, counted from 1; 0 where all are in range.
     pub fn first_out_of_range(self) -> u8
@@ -109,7 +124,7 @@ impl Settings {
 
     // The field with a number, which counts from 1.
     fn field(self, number: usize) -> u32
-        requires { ⌜ (0 < number) × (number ≤ 11) ⌝ }
+        requires { ⌜ (0 < number) × (number ≤ fieldCount) ⌝ }
         ensures { λ r. ⌜ r ≡ Sheet·field number self ⌝ }
     {
         let place = number - 1;

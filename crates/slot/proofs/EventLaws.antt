@@ -1,7 +1,7 @@
 -- An event, by what was found of it.
 use Prim.Native.Nat.{ℕ}
 use mathlib.Core.Path.{_≡_, refl, sym, ap, _∙_}
-use mathlib.Core.Bool.{Bool, true, false, not, cond}
+use mathlib.Core.Bool.{true, false, not}
 use mathlib.Core.List.{List, [], _∷_}
 use native.Mathlib.Omega.{arith}
 use borrow.Author.Tests.{eq-eqb, ne-eqb}
@@ -9,7 +9,6 @@ use denote.Enum.Declared.{tagOf}
 use types.Run.{OneOf, miss}
 use Rattle.refusal.specs.Refusal.{first, ifAccepted}
 use Rattle.refusal.proofs.FirstLaws.{first-skip, first-here, first-end}
-use Rattle.checksum.specs.declared.Channel.{Channel}
 use Rattle.frame.specs.declared.header.Header.{Header}
 use Rattle.frame.proofs.reader.Reading.{the-type}
 use Rattle.frame.specs.declared.reader.Reading.{Reading}
@@ -22,9 +21,9 @@ use Rattle.slot.specs.declared.status.Kept.{Kept}
 use Rattle.slot.specs.declared.status.Kept.the-variants as kept
 use Rattle.slot.specs.declared.status.Status.{Status}
 use Rattle.slot.specs.declared.events.Recording.the-variants as recording
-use Rattle.slot.specs.Judging.{Place, Event, Brought, arrival, placeOf, isReason, firstMiss, keptBy, firstReason, firstKept, ofArrival, isRefused, brings, after}
+use Rattle.slot.specs.Judging.{Place, Event, arrival, firstMiss, keptBy, firstReason, firstKept, ofArrival, isRefused, brings, after}
 use Rattle.slot.specs.Sound.{sound}
-use Rattle.slot.specs.Entries.{eventRefusals, EventSays}
+use Rattle.slot.specs.Events.{eventRefusals, EventSays}
 
 -- ---- no reason, no frame
 
@@ -39,14 +38,6 @@ first-reason-none reason.NullFrame = refl
 pub first-kept-none : (k : Kept) → firstKept k kept.Nothing ≡ k
 first-kept-none kept.Nothing = refl
 first-kept-none (kept.Frame h) = refl
-
-pub kept-by-reason : (r : Reason) (h : Header) → keptBy r h ≡ cond (isReason r) kept.Nothing (kept.Frame h)
-kept-by-reason reason.NoReason h = refl
-kept-by-reason reason.OtherId h = refl
-kept-by-reason reason.OtherCycle h = refl
-kept-by-reason reason.OtherWords h = refl
-kept-by-reason reason.SyncOrStartup h = refl
-kept-by-reason reason.NullFrame h = refl
 
 -- ---- the reader's answer
 

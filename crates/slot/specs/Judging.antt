@@ -6,6 +6,7 @@ use lib.Dec.{eqb, leb}
 use Rattle.refusal.specs.Refusal.{first}
 use Rattle.checksum.specs.declared.Channel.{Channel}
 use Rattle.checksum.specs.declared.Channel.the-variants.{A}
+use Rattle.checksum.specs.Channel.{channelOf}
 use Rattle.frame.specs.declared.header.Slot.{Slot}
 use Rattle.frame.specs.declared.header.Cycle.{Cycle}
 use Rattle.frame.specs.declared.header.Header.{Header}
@@ -26,6 +27,10 @@ pub record Place : Type 0 where
   pub channel : Channel
   pub slot : Slot
   pub cycle : Cycle
+
+-- The same, with the channel by its number.
+abbrev pub placeBy : Settings → ℕ → Slot → Cycle → Place
+placeBy settings channel slot cycle = record { settings = settings; channel = channelOf channel; slot = slot; cycle = cycle }
 
 -- "static if slot is at most field 11"; any other slot is dynamic.
 abbrev pub isStatic : Place → Bool
@@ -89,22 +94,26 @@ firstMiss p h =
     (cond (otherCycle p h) OtherCycle
     (cond (otherWords p h) OtherWords (cond (syncOrStartup p h) SyncOrStartup (cond (nullFrame p h) NullFrame NoReason))))
 
+-- A reason, and not the absence of one.
+abbrev pub isReason : Reason → Bool
+isReason NoReason = false
+isReason OtherId = true
+isReason OtherCycle = true
+isReason OtherWords = true
+isReason SyncOrStartup = true
+isReason NullFrame = true
+
 -- "No miss: .. header fields are kept".
 abbrev pub keptBy : Reason → Header → Kept
-keptBy NoReason h = Frame h
-keptBy OtherId h = Nothing
-keptBy OtherCycle h = Nothing
-keptBy OtherWords h = Nothing
-keptBy SyncOrStartup h = Nothing
-keptBy NullFrame h = Nothing
+keptBy reason h = cond (isReason reason) Nothing (Frame h)
 
 -- ---- an event
 
 -- "arrived bytes, activity at a slot boundary, own sending".
 pub data Event : Type 0 where
   arrival : List ℕ → Event
-  boundary : Event
-  sending : Event
+  boundaryActivity : Event
+  ownSending : Event
 
 -- What an event brings.
 pub record Brought : Type 0 where
@@ -132,19 +141,10 @@ abbrev pub brings : Place → Event → Brought
 brings p (arrival bytes) =
     cond (isRefused (p .channel) bytes) (ofArrival true NoReason Nothing)
     (ofArrival false (firstMiss p (headerRead bytes)) (keptBy (firstMiss p (headerRead bytes)) (headerRead bytes)))
-brings p boundary = record { arrived = false; refused = false; reason = NoReason; kept = Nothing; atBoundary = true; sent = false }
-brings p sending = record { arrived = false; refused = false; reason = NoReason; kept = Nothing; atBoundary = false; sent = true }
+brings p boundaryActivity = record { arrived = false; refused = false; reason = NoReason; kept = Nothing; atBoundary = true; sent = false }
+brings p ownSending = record { arrived = false; refused = false; reason = NoReason; kept = Nothing; atBoundary = false; sent = true }
 
 -- ---- what it leaves
-
--- A reason, and not the absence of one.
-abbrev pub isReason : Reason → Bool
-isReason NoReason = false
-isReason OtherId = true
-isReason OtherCycle = true
-isReason OtherWords = true
-isReason SyncOrStartup = true
-isReason NullFrame = true
 
 -- A frame, and not the absence of one.
 abbrev pub isFrame : Kept → Bool
@@ -164,8 +164,8 @@ abbrev pub hasArrival : Status → Bool
 hasArrival s = s .«syntax_error» || (s .«content_error» || s .valid)
 
 -- "Flags never clear within a slot": each stands if the event sets it or if it stood before.
-abbrev pub with : Status → Brought → Status
-with s b =
+abbrev pub joined : Status → Brought → Status
+joined s b =
     record {
       settings = s .settings;
       channel = s .channel;
@@ -187,4 +187,4 @@ with s b =
     }
 
 abbrev pub after : Status → Event → Status
-after s e = with s (brings (placeOf s) e)
+after s e = joined s (brings (placeOf s) e)

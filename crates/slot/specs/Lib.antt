@@ -1,3 +1,4 @@
 pub mod Judging
+pub mod Opening
 pub mod Sound
-pub mod Entries
+pub mod Events

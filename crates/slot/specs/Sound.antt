@@ -1,41 +1,16 @@
--- Which statuses are sound (01, "Refusal numbers": "A slot status is sound if"), and which places open a slot.
-use Prim.Native.Nat.{ℕ}
+-- Which statuses are sound (01, "Refusal numbers": "A slot status is sound if").
 use mathlib.Core.Bool.{Bool, true, false, not, _&&_}
-use mathlib.Core.List.{List, [], _∷_}
 use lib.Dec.{eqb, leb}
-use Rattle.refusal.specs.Refusal.{Line, _when_, first}
-use Rattle.checksum.specs.declared.Channel.{Channel}
-use Rattle.checksum.specs.declared.Channel.the-variants.{A, B}
-use Rattle.checksum.specs.Channel.{notAChannel}
-use Rattle.frame.specs.declared.header.Slot.{Slot}
-use Rattle.frame.specs.declared.header.Cycle.{Cycle}
+use Rattle.refusal.specs.Refusal.{first}
+use Rattle.checksum.specs.Channel.{numberOf}
 use Rattle.frame.specs.declared.header.Header.{Header}
-use Rattle.frame.specs.Layout.{headerChecksumOf}
+use Rattle.frame.specs.Layout.{mostWords, headerChecksumOf}
 use Rattle.frame.specs.Refusals.{notAnId, cycleTooHigh, startupWithoutSync}
-use Rattle.settings.specs.declared.Settings.{Settings}
-use Rattle.settings.specs.Sheet.{firstOutOfRange}
 use Rattle.slot.specs.declared.status.Kept.{Kept}
 use Rattle.slot.specs.declared.status.Kept.the-variants.{Nothing, Frame}
 use Rattle.slot.specs.declared.status.Status.{Status}
 use Rattle.slot.specs.Judging.{Place, placeOf, firstMiss, isReason, isFrame, hasArrival}
-
--- 17: "a setting out of range".
-abbrev pub outOfRange : Settings → Bool
-outOfRange settings = not (eqb (firstOutOfRange settings) 0)
-
--- "Open slot: 17, 1, 9, 11."
-abbrev pub openingRefusals : Settings → ℕ → Slot → Cycle → List Line
-openingRefusals settings channel slot cycle =
-    17 when outOfRange settings
-    ∷ 1 when notAChannel channel
-    ∷ 9 when notAnId (slot .0)
-    ∷ 11 when cycleTooHigh (cycle .0)
-    ∷ []
-
--- The number that names a channel.
-abbrev pub numberOf : Channel → ℕ
-numberOf A = 0
-numberOf B = 1
+use Rattle.slot.specs.Opening.{openingRefusals}
 
 -- "its settings, channel, slot and cycle would open a slot".
 abbrev pub wouldOpen : Place → Bool
@@ -46,7 +21,7 @@ wouldOpen p = eqb (first (openingRefusals (p .settings) (numberOf (p .channel)) 
 abbrev pub couldBeRead : Header → Bool
 couldBeRead h =
     not (notAnId (h .id .0))
-    && (leb (h .words) 127 && (not (cycleTooHigh (h .cycle .0)) && (not (startupWithoutSync (h .startup) (h .sync)) && eqb (h .checksum) (headerChecksumOf h))))
+    && (leb (h .words) mostWords && (not (cycleTooHigh (h .cycle .0)) && (not (startupWithoutSync (h .startup) (h .sync)) && eqb (h .checksum) (headerChecksumOf h))))
 
 -- "is one that a read could give and passes (a) to (e)". Where no frame is kept, nothing is asked.
 abbrev pub keepsWell : Place → Kept → Bool

@@ -2,11 +2,11 @@
 ghost use mathlib.Core.Path.{_≡_};
 ghost use mathlib.Core.Bool.{false};
 ghost use Rattle.slot.specs.declared.events.Recording.the-variants.{Recorded, NotSound};
-ghost use Rattle.slot.specs.Judging.{arrival, boundary as Judging·boundary, sending, ofArrival, with};
-ghost use Rattle.slot.specs.Entries.{eventTold, EventSays};
+ghost use Rattle.slot.specs.Judging.{arrival, boundaryActivity, ownSending, ofArrival, joined};
+ghost use Rattle.slot.specs.Events.{told, EventSays};
 use crate::content;
+use crate::flags;
 use crate::sound;
-use crate::status;
 use crate::status::Kept;
 use crate::status::Reason;
 use crate::status::Status;
@@ -21,7 +21,7 @@ pub enum Recording {
 impl Recording {
     // 01's number: 0, or that of the refusal.
     pub fn number(self) -> u8
-        ensures { λ r. ⌜ r ≡ eventTold self ⌝ }
+        ensures { λ r. ⌜ r ≡ told self ⌝ }
     {
         match self {
             Recording::Recorded => 0,
@@ -56,7 +56,7 @@ pub fn arrived(status: Status, bytes: &[u8]) -> Judged
 
 // Activity at a boundary of the slot.
 pub fn boundary(status: Status) -> Judged
-    ensures { λ r. ⌜ EventSays status Judging·boundary r ⌝ }
+    ensures { λ r. ⌜ EventSays status boundaryActivity r ⌝ }
 {
     if !sound::is_sound(status) {
         return not_sound(status);
@@ -68,14 +68,15 @@ pub fn boundary(status: Status) -> Judged
 
 // This node sent in the slot.
 pub fn sent(status: Status) -> Judged
-    ensures { λ r. ⌜ EventSays status sending r ⌝ }
+    ensures { λ r. ⌜ EventSays status ownSending r ⌝ }
 {
     if !sound::is_sound(status) {
         return not_sound(status);
     }
+    let has_arrival = status.has_arrival();
     let mut next = status;
     next.own_sending = true;
-    next.conflict = status::either(status.has_arrival(), status.conflict);
+    next.conflict = flags::either(has_arrival, status.conflict);
     recorded(next)
 }
 
@@ -88,18 +89,19 @@ fn recorded(status: Status) -> Judged
     }
 }
 
-fn not_sound(status: Status) -> Judged
-    ensures { λ r. ⌜ r ≡ record { answer = NotSound; status = status } ⌝ }
+fn not_sound(handed_in: Status) -> Judged
+    ensures { λ r. ⌜ r ≡ record { answer = NotSound; status = handed_in } ⌝ }
 {
     Judged {
         answer: Recording::NotSound,
-        status,
+        status: handed_in,
     }
 }
 
-// The status after an arrival that is not refused: with the first test that the frame misses, and the frame to keep.
+// The status after an arrival, by the first test that it misses and by the frame to keep. Of an arrival that is refused only the
+// syntax error is still to be set.
 fn with_arrival(status: Status, reason: Reason, kept: Kept) -> Status
-    ensures { λ r. ⌜ r ≡ with status (ofArrival false reason kept) ⌝ }
+    ensures { λ r. ⌜ r ≡ joined status (ofArrival false reason kept) ⌝ }
 {
     let settings = status.settings;
     let channel = status.channel;
@@ -107,16 +109,18 @@ fn with_arrival(status: Status, reason: Reason, kept: Kept) -> Status
     let cycle = status.cycle;
     let first_reason = status.reason;
     let first_kept = status.kept;
+    let is_missed = reason.is_reason();
+    let is_passed = kept.is_frame();
     Status {
         settings,
         channel,
         slot,
         cycle,
         syntax_error: status.syntax_error,
-        content_error: status::either(reason.is_reason(), status.content_error),
+        content_error: flags::either(is_missed, status.content_error),
         boundary_violation: status.boundary_violation,
-        conflict: status::either(status.own_sending, status.conflict),
-        valid: status::either(kept.is_frame(), status.valid),
+        conflict: flags::either(status.own_sending, status.conflict),
+        valid: flags::either(is_passed, status.valid),
         own_sending: status.own_sending,
         reason: first_reason.or_later(reason),
         kept: first_kept.or_later(kept),

@@ -2,9 +2,10 @@
 //
 // Entries: `open_slot` on settings, a channel number, a slot and a cycle; `arrived` on a status and bytes, `boundary` and `sent` on
 // a status. Each takes whatever comes and gives an answer and a status. For the crates above: `is_sound`, by which a status that
-// a host hands in is refused, and `is_static`.
+// a host hands in is refused, `Status::none`, which is all zeros, and `is_static`.
 mod content;
 mod events;
+mod flags;
 mod opening;
 mod sound;
 mod status;

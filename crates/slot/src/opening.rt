@@ -1,7 +1,7 @@
 // A slot opened.
 ghost use mathlib.Core.Path.{_≡_};
 ghost use Rattle.slot.specs.Judging.{noStatus};
-ghost use Rattle.slot.specs.Entries.{told, OpenSays};
+ghost use Rattle.slot.specs.Opening.{told, OpenSays};
 use crate::status::Status;
 use checksum::Channel;
 use checksum::Named;

@@ -1,9 +1,9 @@
-// Whether a status could be one of ours: a host hands them in.
+// Soundness of a status: a host may hand in any.
 ghost use mathlib.Core.Path.{_≡_};
-ghost use mathlib.Core.Bool.{_&&_};
 ghost use Rattle.slot.specs.Judging.{placeOf};
-ghost use Rattle.slot.specs.Sound.{wouldOpen, couldBeRead, keepsWell, exactlyWith, sound};
+ghost use Rattle.slot.specs.Sound.{wouldOpen, couldBeRead, keepsWell, sound};
 use crate::content;
+use crate::flags;
 use crate::status::Kept;
 use crate::status::Status;
 use frame::Header;
@@ -17,18 +17,18 @@ pub fn is_sound(status: Status) -> bool
     if !would_open(status) {
         return false;
     }
-    if !exactly_with(status.content_error, reason.is_reason()) {
+    if !flags::exactly_with(status.content_error, reason.is_reason()) {
         return false;
     }
-    if !exactly_with(status.valid, kept.is_frame()) {
+    if !flags::exactly_with(status.valid, kept.is_frame()) {
         return false;
     }
     if !keeps_well(status, kept) {
         return false;
     }
-    exactly_with(
+    flags::exactly_with(
         status.conflict,
-        both(status.own_sending, status.has_arrival()),
+        flags::both(status.own_sending, status.has_arrival()),
     )
 }
 
@@ -65,7 +65,7 @@ fn could_be_read(header: Header) -> bool
     if header.id.is_not_an_id() {
         return false;
     }
-    if 127 < header.words {
+    if Header::MOST_WORDS < header.words {
         return false;
     }
     if header.cycle.is_too_high() {
@@ -74,23 +74,6 @@ fn could_be_read(header: Header) -> bool
     if frame::startup_without_sync(header.startup, header.sync) {
         return false;
     }
-    header.checksum == header.checksum_due()
-}
-
-fn exactly_with(a: bool, b: bool) -> bool
-    ensures { λ r. ⌜ r ≡ exactlyWith a b ⌝ }
-{
-    if a {
-        return b;
-    }
-    !b
-}
-
-fn both(a: bool, b: bool) -> bool
-    ensures { λ r. ⌜ r ≡ a && b ⌝ }
-{
-    if a {
-        return b;
-    }
-    false
+    let due = header.checksum_due();
+    header.checksum == due
 }

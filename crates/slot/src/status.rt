@@ -1,6 +1,5 @@
 // What is known of a slot: how it was opened, and what happened in it.
 ghost use mathlib.Core.Path.{_≡_};
-ghost use mathlib.Core.Bool.{_||_};
 ghost use Rattle.slot.specs.Judging.{fresh as Judging·fresh, noStatus, isReason, isFrame, firstReason, firstKept, hasArrival};
 use checksum::Channel;
 use frame::Cycle;
@@ -11,10 +10,15 @@ use settings::Settings;
 // The first test that a frame missed, of 01's (a) to (e), or none.
 pub enum Reason {
     NoReason,
+    // (a)
     OtherId,
+    // (b)
     OtherCycle,
+    // (c)
     OtherWords,
+    // (d)
     SyncOrStartup,
+    // (e)
     NullFrame,
 }
 
@@ -113,7 +117,7 @@ impl Status {
     pub fn none() -> Status
         ensures { λ r. ⌜ r ≡ noStatus ⌝ }
     {
-        Status::fresh(Settings::NONE, Channel::A, Slot(0), Cycle(0))
+        Status::fresh(Settings::none(), Channel::A, Slot(0), Cycle(0))
     }
 
     // Whether anything has arrived: each arrival sets one of these.
@@ -128,14 +132,4 @@ impl Status {
         }
         self.valid
     }
-}
-
-// One or the other.
-pub fn either(a: bool, b: bool) -> bool
-    ensures { λ r. ⌜ r ≡ a || b ⌝ }
-{
-    if a {
-        return true;
-    }
-    b
 }

@@ -3,19 +3,17 @@ use Prim.Native.Nat.{ℕ}
 use mathlib.Core.Path.{_≡_, refl, sym, ap, ap₂, _∙_, subst}
 use mathlib.Core.Bool.{cond}
 use lib.Dec.{eqb}
-use Rattle.refusal.specs.Refusal.{first, numbered, InOrder}
+use Rattle.refusal.specs.Refusal.{numbered, InOrder}
 use Rattle.refusal.proofs.FirstLaws.{first-in-order, if-refused}
-use Rattle.checksum.specs.Channel.{channelOf}
 use Rattle.slot.specs.declared.status.Status.{Status}
 use Rattle.slot.specs.declared.opening.Opening.{Opening}
-use Rattle.slot.specs.declared.opening.Opening.the-variants as opening
-use Rattle.slot.specs.declared.opening.Opened.{Opened}
+use Rattle.slot.specs.declared.opening.Opening.the-variants.{Opened, SettingOutOfRange, NotAChannel, NotASlot, CycleTooHigh}
 use Rattle.slot.specs.declared.events.Recording.{Recording}
-use Rattle.slot.specs.declared.events.Recording.the-variants as recording
-use Rattle.slot.specs.declared.events.Judged.{Judged}
-use Rattle.slot.specs.Judging.{fresh, noStatus, after}
-use Rattle.slot.specs.Sound.{openingRefusals}
-use Rattle.slot.specs.Entries.{Told, told, eventTold, eventRefusals}
+use Rattle.slot.specs.declared.events.Recording.the-variants.{Recorded, NotSound}
+use Rattle.slot.specs.Judging.{placeBy, fresh, noStatus, after}
+use Rattle.slot.specs.Opening.{openingRefusals, Told, told}
+use Rattle.slot.specs.Events as event
+use Rattle.slot.specs.Events.{eventRefusals}
 use Rattle.slot_claims.specs.Answers.{OpenOne, EventOne, OpenInOrder, EventInOrder, OpenRefused, EventRefused}
 
 -- ---- one result
@@ -23,17 +21,17 @@ use Rattle.slot_claims.specs.Answers.{OpenOne, EventOne, OpenInOrder, Ev
 -- a number names one case, so answers that say the same in 01's numbers are one answer
 openingBy : Told → Opening
 openingBy t =
-    cond (eqb (t .number) 0) opening.Opened
-    (cond (eqb (t .number) 17) (opening.SettingOutOfRange (t .field))
-    (cond (eqb (t .number) 1) opening.NotAChannel (cond (eqb (t .number) 9) opening.NotASlot opening.CycleTooHigh)))
+    cond (eqb (t .number) 0) Opened
+    (cond (eqb (t .number) 17) (SettingOutOfRange (t .field))
+    (cond (eqb (t .number) 1) NotAChannel (cond (eqb (t .number) 9) NotASlot CycleTooHigh)))
 
 opening-by : (r : Opening) → openingBy (told r) ≡ r
 unfolding openingBy
-opening-by opening.Opened = refl
-opening-by (opening.SettingOutOfRange field) = refl
-opening-by opening.NotAChannel = refl
-opening-by opening.NotASlot = refl
-opening-by opening.CycleTooHigh = refl
+opening-by Opened = refl
+opening-by (SettingOutOfRange field) = refl
+opening-by NotAChannel = refl
+opening-by NotASlot = refl
+opening-by CycleTooHigh = refl
 
 pub open-one : OpenOne
 open-one settings channel slot cycle r s hr hs =
@@ -41,12 +39,12 @@ open-one settings channel slot cycle r s hr hs =
     (sym (opening-by (r .answer)) ∙ ap openingBy (hr .answers ∙ sym (hs .answers)) ∙ opening-by (s .answer)) (hr .leaves ∙ sym (hs .leaves))
 
 recordingBy : ℕ → Recording
-recordingBy n = cond (eqb n 0) recording.Recorded recording.NotSound
+recordingBy n = cond (eqb n 0) Recorded NotSound
 
-recording-by : (r : Recording) → recordingBy (eventTold r) ≡ r
+recording-by : (r : Recording) → recordingBy (event.told r) ≡ r
 unfolding recordingBy
-recording-by recording.Recorded = refl
-recording-by recording.NotSound = refl
+recording-by Recorded = refl
+recording-by NotSound = refl
 
 pub event-one : EventOne
 event-one status e r s hr hs =
@@ -70,7 +68,7 @@ event-in-order status e r h = subst (InOrder (eventRefusals status)) (sym (h .an
 pub open-refused : OpenRefused
 open-refused settings channel slot cycle r h refused =
     h .leaves
-    ∙ if-refused _ (fresh (record { settings = settings; channel = channelOf channel; slot = slot; cycle = cycle })) noStatus
+    ∙ if-refused _ (fresh (placeBy settings channel slot cycle)) noStatus
     (λ e. refused (ap (λ (t : Told). t .number) (h .answers) ∙ e))
 
 pub event-refused : EventRefused

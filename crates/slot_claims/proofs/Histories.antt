@@ -1,28 +1,22 @@
 -- The claims about sequences of events: one law for a flag, and one for what is kept first.
-use Prim.Native.Nat.{ℕ}
 use mathlib.Core.Path.{_≡_, refl, sym, ap, _∙_, subst}
-use mathlib.Core.Bool.{Bool, true, false, false≢true, not, _&&_, _||_, cond, or-false}
-use mathlib.Core.List.{List, [], _∷_, List·Memᴰ, Memᴰ·cast}
-use mathlib.Core.Logic.{_⊎_, inl, inr, _↔_}
+use mathlib.Core.Bool.{Bool, true, false, not, _||_, cond, or-false}
+use mathlib.Core.List.{List, [], _∷_, Memᴰ·cast}
+use mathlib.Core.Logic.{_↔_}
 use Rattle.refusal.specs.Refusal.{first}
 use Rattle.refusal.proofs.FirstLaws.{first-skip, first-end, if-accepted}
-use Rattle.checksum.specs.Channel.{channelOf}
-use Rattle.frame.specs.declared.header.Slot.{Slot}
-use Rattle.frame.specs.declared.header.Cycle.{Cycle}
-use Rattle.frame.specs.declared.header.Header.{Header}
-use Rattle.settings.specs.declared.Settings.{Settings}
-use Rattle.slot.specs.declared.status.Reason.{Reason}
 use Rattle.slot.specs.declared.status.Reason.the-variants as reason
-use Rattle.slot.specs.declared.status.Kept.{Kept}
 use Rattle.slot.specs.declared.status.Kept.the-variants as kept
 use Rattle.slot.specs.declared.status.Status.{Status}
-use Rattle.slot.specs.declared.opening.Opened.{Opened}
-use Rattle.slot.specs.Judging.{Place, Event, Brought, boundary, sending, placeOf, fresh, noStatus, isReason, isFrame, hasArrival, brings, after}
-use Rattle.slot.specs.Sound.{openingRefusals, sound}
-use Rattle.slot.specs.Entries.{Told, told, OpenSays, eventRefusals, EventSays}
-use Rattle.slot_claims.specs.Histories.{Arrives, Refused, Misses, Passes, MissesSome, PassesAll, Some, First, History, Calls, Histories, HistoriesSound}
-use Rattle.slot_claims.proofs.Truth.{both-true, true-both, or-between, first-of-three}
-use Rattle.slot_claims.proofs.Sound.{Clauses, clauses, fits, has-after, after-sound, fresh-sound, reason-there, there-reason, no-reason, frame-there, no-frame}
+use Rattle.slot.specs.Judging.{Place, Event, Brought, boundaryActivity, ownSending, placeOf, placeBy, fresh, noStatus, isReason, isFrame, hasArrival, brings, after}
+use Rattle.slot.specs.Opening.{openingRefusals, Told}
+use Rattle.slot.specs.Sound.{sound}
+use Rattle.slot.specs.Events.{eventRefusals}
+use Rattle.slot_claims.specs.Histories.{Arrives, ArrivesRefused, Misses, PassesAll, Occurs, Some, First, History, HistoryOne, Calls, NoneRefused, Histories}
+use Rattle.slot_claims.proofs.Truth.{both-true, true-both, same-true, or-between, first-of-three}
+use Rattle.slot_claims.proofs.ReasonLaws.{reason-there, there-reason, no-reason, frame-there, no-frame}
+use Rattle.slot_claims.proofs.Sound.{Clauses, clauses}
+use Rattle.slot_claims.proofs.SoundCalls.{fits, has-after, after-sound, fresh-sound}
 use Rattle.slot_claims.proofs.EventsLaws.{some-same, first-same, any, any-some, some-any, firstIn, found-first, first-found}
 use Rattle.slot_claims.proofs.Brings.{arrives-exactly, refused-exactly, misses-exactly, passes-exactly, boundary-exactly, sending-exactly}
 
@@ -70,14 +64,15 @@ module _ {A : Type 0} (is : A → Bool) (none : A) (only : (a : A) → is a ≡ 
 
 -- ---- from a fresh status
 
-module _ (p : Place) (events : List Event) where
-  abbrev end : Status
-  end = played (fresh p) events
+-- the status at the end
+abbrev end : Place → List Event → Status
+end p events = played (fresh p) events
 
+module _ (p : Place) (events : List Event) where
   -- a flag stands exactly when some event set it
   flag-exactly : (flag : Status → Bool) (sets : Brought → Bool)
       → ((s : Status) (e : Event) → flag (after s e) ≡ sets (brings (placeOf s) e) || flag s) → flag (fresh p) ≡ false
-      → (P : Event → Type 0) → ((e : Event) → (sets (brings p e) ≡ true) ↔ P e) → (flag end ≡ true) ↔ Some P events
+      → (P : Event → Type 0) → ((e : Event) → (sets (brings p e) ≡ true) ↔ P e) → (flag (end p events) ≡ true) ↔ Some P events
   flag-exactly flag sets once clear P same =
       let f : Event → Bool = λ e. sets (brings p e) in
       let is : flag (played (fresh p) events) ≡ any f events =
@@ -90,7 +85,7 @@ module _ (p : Place) (events : List Event) where
       → ((s : Status) (e : Event) → keeps (after s e) ≡ cond (is (keeps s)) (keeps s) (gives (brings (placeOf s) e)))
       → is none ≡ false → keeps (fresh p) ≡ none
       → (P : Event → Type 0) → ((e : Event) → (is (gives (brings p e)) ≡ true) ↔ P e)
-      → (a : A) → is a ≡ true → (keeps end ≡ a) ↔ ((e : Event) × First P events e × (gives (brings p e) ≡ a))
+      → (a : A) → is a ≡ true → (keeps (end p events) ≡ a) ↔ ((e : Event) × First P events e × (gives (brings p e) ≡ a))
   first-exactly {A = A} is none only keeps gives once out clear P same a there =
       let f : Event → A = λ e. gives (brings p e) in
       let end-is : keeps (played (fresh p) events) ≡ firstIn is f none events =
@@ -107,10 +102,10 @@ module _ (p : Place) (events : List Event) where
       )
 
 -- this very event is among them
-some-is : (x : Event) (events : List Event) → Some (λ e. x ≡ e) events ↔ List·Memᴰ x events
+some-is : (x : Event) (events : List Event) → Some (λ e. x ≡ e) events ↔ Occurs x events
 some-is x events = (λ s. Memᴰ·cast (s .2) (s .1), λ m. (x, m, refl))
 
-misses-some : (p : Place) (e : Event) → (isReason (brings p e .reason) ≡ true) ↔ MissesSome p e
+misses-some : (p : Place) (e : Event) → (isReason (brings p e .reason) ≡ true) ↔ Misses p e
 misses-some p e = (
   λ t. (brings p e .reason, misses-exactly p (brings p e .reason) e t .0 refl),
   λ m.
@@ -128,19 +123,19 @@ passes-all p e = (
 
 module _ (p : Place) (good : sound (fresh p) ≡ true) (events : List Event) where
   abbrev whole : Status
-  whole = played (fresh p) events
+  whole = end p events
 
   whole-sound : sound whole ≡ true
   whole-sound = played-sound (fresh p) events good
 
-  content-exactly : (whole .«content_error» ≡ true) ↔ Some (MissesSome p) events
+  content-exactly : (whole .«content_error» ≡ true) ↔ Some (Misses p) events
   content-exactly =
-      flag-exactly p events (λ s. s .«content_error») (λ b. isReason (b .reason)) (λ s e. refl) refl (MissesSome p) (misses-some p)
+      flag-exactly p events (λ s. s .«content_error») (λ b. isReason (b .reason)) (λ s e. refl) refl (Misses p) (misses-some p)
 
-  sent-exactly : (whole .«own_sending» ≡ true) ↔ List·Memᴰ sending events
+  sent-exactly : (whole .«own_sending» ≡ true) ↔ Occurs ownSending events
   sent-exactly =
-      let f = flag-exactly p events (λ s. s .«own_sending») (λ b. b .sent) (λ s e. refl) refl (λ e. sending ≡ e) (sending-exactly p) in
-      let m = some-is sending events in
+      let f = flag-exactly p events (λ s. s .«own_sending») (λ b. b .sent) (λ s e. refl) refl (λ e. ownSending ≡ e) (sending-exactly p) in
+      let m = some-is ownSending events in
       (λ t. m .0 (f .0 t), λ x. f .1 (m .1 x))
 
   arrived-exactly : (hasArrival whole ≡ true) ↔ Some Arrives events
@@ -151,21 +146,17 @@ module _ (p : Place) (good : sound (fresh p) ≡ true) (events : List Event) whe
   history =
       record {
         place = played-place (fresh p) events;
-        syntax = flag-exactly p events (λ s. s .«syntax_error») (λ b. b .refused) (λ s e. refl) refl (Refused p) (refused-exactly p);
+        syntax = flag-exactly p events (λ s. s .«syntax_error») (λ b. b .refused) (λ s e. refl) refl (ArrivesRefused p) (refused-exactly p);
         content = content-exactly;
         reason =
             λ r named.
             let is : isReason r ≡ true = there-reason r named in
             let f =
-            first-exactly p events isReason reason.NoReason no-reason (λ s. s .reason) (λ b. b .reason) (λ s e. refl) refl refl (MissesSome p)
+            first-exactly p events isReason reason.NoReason no-reason (λ s. s .reason) (λ b. b .reason) (λ s e. refl) refl refl (Misses p)
             (misses-some p) r is in (
               λ t. (f .0 t .0, f .0 t .1, misses-exactly p r (f .0 t .0) is .0 (f .0 t .2)),
               λ m. f .1 (m .0, m .1, misses-exactly p r (m .0) is .1 (m .2)),
             );
-        noReason = (
-          λ e some. false≢true (sym (c .content ∙ ap isReason e) ∙ content-exactly .1 some),
-          λ none. no-reason (whole .reason) (sym (c .content) ∙ clear (whole .«content_error») (λ t. none (content-exactly .0 t))),
-        );
         valid = flag-exactly p events (λ s. s .valid) (λ b. isFrame (b .kept)) (λ s e. refl) refl (PassesAll p) (passes-all p);
         kept =
             λ h.
@@ -175,11 +166,11 @@ module _ (p : Place) (good : sound (fresh p) ≡ true) (events : List Event) whe
               λ t. (f .0 t .0, f .0 t .1, passes-exactly p h (f .0 t .0) .0 (f .0 t .2)),
               λ m. f .1 (m .0, m .1, passes-exactly p h (m .0) .1 (m .2)),
             );
-        atBoundary =
-            let f = flag-exactly p events (λ s. s .«boundary_violation») (λ b. b .atBoundary) (λ s e. refl) refl (λ e. boundary ≡ e) (boundary-exactly p) in
-            let m = some-is boundary events in
+        boundary =
+            let f = flag-exactly p events (λ s. s .«boundary_violation») (λ b. b .atBoundary) (λ s e. refl) refl (λ e. boundaryActivity ≡ e) (boundary-exactly p) in
+            let m = some-is boundaryActivity events in
             (λ t. m .0 (f .0 t), λ x. f .1 (m .1 x));
-        sent = sent-exactly;
+        sending = sent-exactly;
         conflict = (
           λ t.
               let b = both-true (whole .«own_sending») (hasArrival whole) (sym (c .conflict) ∙ t) in
@@ -191,48 +182,95 @@ module _ (p : Place) (good : sound (fresh p) ≡ true) (events : List Event) whe
       c : Clauses whole
       c = clauses whole whole-sound
 
-      clear : (b : Bool) → (b ≡ true → ⊥) → b ≡ false
-      clear true h = absurd (h refl)
-      clear false h = refl
+-- ---- one status
+
+-- two flags that stand in the same case
+same-flag : {P : Type 0} (a b : Bool) → (a ≡ true) ↔ P → (b ≡ true) ↔ P → a ≡ b
+same-flag a b x y = same-true a b (λ e. y .1 (x .0 e), λ e. x .1 (y .0 e))
+
+module _ (p : Place) (events : List Event) (s t : Status) (hs : History p events s) (ht : History p events t) where
+  same-reason : s .reason ≡ t .reason
+  same-reason = by (isReason (s .reason)) (isReason (t .reason)) refl refl
+    where
+      by : (a b : Bool) → isReason (s .reason) ≡ a → isReason (t .reason) ≡ b → s .reason ≡ t .reason
+      by true b es et =
+          let named = reason-there (s .reason) es in
+          sym (ht .reason (s .reason) named .1 (hs .reason (s .reason) named .0 refl))
+      by false true es et =
+          let named = reason-there (t .reason) et in
+          hs .reason (t .reason) named .1 (ht .reason (t .reason) named .0 refl)
+      by false false es et = no-reason (s .reason) es ∙ sym (no-reason (t .reason) et)
+
+  same-kept : s .kept ≡ t .kept
+  same-kept = by (isFrame (s .kept)) (isFrame (t .kept)) refl refl
+    where
+      by : (a b : Bool) → isFrame (s .kept) ≡ a → isFrame (t .kept) ≡ b → s .kept ≡ t .kept
+      by true b es et =
+          let f = frame-there (s .kept) es in
+          f .1 ∙ sym (ht .kept (f .0) .1 (hs .kept (f .0) .0 (f .1)))
+      by false true es et =
+          let f = frame-there (t .kept) et in
+          hs .kept (f .0) .1 (ht .kept (f .0) .0 (f .1)) ∙ sym (f .1)
+      by false false es et = no-frame (s .kept) es ∙ sym (no-frame (t .kept) et)
+
+  same-status : s ≡ t
+  same-status =
+      let place : placeOf s ≡ placeOf t = hs .place ∙ sym (ht .place) in
+      let syntax = same-flag (s .«syntax_error») (t .«syntax_error») (hs .syntax) (ht .syntax) in
+      let content = same-flag (s .«content_error») (t .«content_error») (hs .content) (ht .content) in
+      let boundary = same-flag (s .«boundary_violation») (t .«boundary_violation») (hs .boundary) (ht .boundary) in
+      let conflict = same-flag (s .conflict) (t .conflict) (hs .conflict) (ht .conflict) in
+      let valid = same-flag (s .valid) (t .valid) (hs .valid) (ht .valid) in
+      let sending = same-flag (s .«own_sending») (t .«own_sending») (hs .sending) (ht .sending) in
+      λ i.
+      record {
+        settings = place i .settings;
+        channel = place i .channel;
+        slot = place i .slot;
+        cycle = place i .cycle;
+        «syntax_error» = syntax i;
+        «content_error» = content i;
+        «boundary_violation» = boundary i;
+        conflict = conflict i;
+        valid = valid i;
+        «own_sending» = sending i;
+        reason = same-reason i;
+        kept = same-kept i;
+      }
+
+pub history-one : HistoryOne
+history-one p events s t hs ht = same-status p events s t hs ht
 
 -- ---- sequences of calls
 
--- each call on a sound status leaves what its event leaves
-pub calls-played : (s : Status) (events : List Event) (t : Status) → sound s ≡ true → Calls s events t → t ≡ played s events
+-- each call on a sound status is recorded, and leaves what its event leaves
+module _ (s : Status) (good : sound s ≡ true) where
+  none-refused : first (eventRefusals s) ≡ 0
+  none-refused = first-skip 23 _ (ap not good) ∙ first-end
+
+calls-played : (s : Status) (events : List Event) (t : Status) → sound s ≡ true → Calls s events t → t ≡ played s events
 unfolding played
 calls-played s [] t good calls = sym calls
 calls-played s (e ∷ events) t good calls =
-    let none : first (eventRefusals s) ≡ 0 = first-skip 23 _ (ap not good) ∙ first-end in
-    let same : calls .0 .status ≡ after s e = calls .1 .leaves ∙ if-accepted (first (eventRefusals s)) (after s e) s none in
+    let same : calls .0 .status ≡ after s e = calls .1 .leaves ∙ if-accepted (first (eventRefusals s)) (after s e) s (none-refused s good) in
     calls-played (after s e) events t (after-sound s e good) (subst (λ (x : Status). Calls x events t) same (calls .2))
 
+calls-recorded : (s : Status) (events : List Event) (t : Status) → sound s ≡ true → (calls : Calls s events t) → NoneRefused s events t calls
+calls-recorded s [] t good calls = tt
+calls-recorded s (e ∷ events) t good calls =
+    let same : calls .0 .status ≡ after s e = calls .1 .leaves ∙ if-accepted (first (eventRefusals s)) (after s e) s (none-refused s good) in (
+      calls .1 .answers ∙ none-refused s good,
+      calls-recorded (calls .0 .status) events t (ap sound same ∙ after-sound s e good) (calls .2),
+    )
+
 -- an accepted opening leaves a fresh status, which is sound
-module _ (settings : Settings) (channel : ℕ) (slot : Slot) (cycle : Cycle) (opened : Opened) (says : OpenSays settings channel slot cycle opened)
-    (accepted : told (opened .answer) .number ≡ 0) where
-  abbrev opened-place : Place
-  opened-place = record { settings = settings; channel = channelOf channel; slot = slot; cycle = cycle }
-
-  none-refused : first (openingRefusals settings channel slot cycle) ≡ 0
-  none-refused = sym (ap (λ (t : Told). t .number) (says .answers)) ∙ accepted
-
-  good-place : sound (fresh opened-place) ≡ true
-  good-place = fresh-sound settings channel slot cycle none-refused
-
-  ends : (events : List Event) (s : Status) → Calls (opened .status) events s → s ≡ played (fresh opened-place) events
-  ends events s calls =
-      let is-fresh : opened .status ≡ fresh opened-place = says .leaves ∙ if-accepted _ (fresh opened-place) noStatus none-refused in
-      calls-played (fresh opened-place) events s good-place (subst (λ (x : Status). Calls x events s) is-fresh calls)
-
-  pub has-history : (events : List Event) (s : Status) → Calls (opened .status) events s → History opened-place events s
-  has-history events s calls = subst (History opened-place events) (sym (ends events s calls)) (history opened-place good-place events)
-
-  pub has-sound : (events : List Event) (s : Status) → Calls (opened .status) events s → sound s ≡ true
-  has-sound events s calls = ap sound (ends events s calls) ∙ played-sound (fresh opened-place) events good-place
-
 pub histories : Histories
 histories settings channel slot cycle opened says accepted events s calls =
-    has-history settings channel slot cycle opened says accepted events s calls
-
-pub histories-sound : HistoriesSound
-histories-sound settings channel slot cycle opened says accepted events s calls =
-    has-sound settings channel slot cycle opened says accepted events s calls
+    let p = placeBy settings channel slot cycle in
+    let none : first (openingRefusals settings channel slot cycle) ≡ 0 = sym (ap (λ (t : Told). t .number) (says .answers)) ∙ accepted in
+    let good : sound (fresh p) ≡ true = fresh-sound settings channel slot cycle none in
+    let is-fresh : opened .status ≡ fresh p = says .leaves ∙ if-accepted _ (fresh p) noStatus none in
+    let ends : s ≡ played (fresh p) events = calls-played (fresh p) events s good (subst (λ (x : Status). Calls x events s) is-fresh calls) in (
+      calls-recorded (opened .status) events s (ap sound is-fresh ∙ good) calls,
+      subst (History p events) (sym ends) (history p good events),
+    )

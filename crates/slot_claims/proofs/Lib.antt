@@ -1,7 +1,11 @@
 pub mod Truth
+pub mod ReasonLaws
 pub mod Answers
 pub mod Sheet
+pub mod Content
+pub mod Readable
 pub mod Sound
+pub mod SoundCalls
 pub mod EventsLaws
 pub mod Brings
 pub mod Histories

@@ -1,7 +1,7 @@
 -- The claims about the settings sheet: the walk over ranges and values, from any number on.
 use Prim.Native.Nat.{ℕ, zero, suc, _+_, _-_, _<_, _≤_}
-use mathlib.Core.Path.{_≡_, refl, sym, ap, _∙_, subst}
-use mathlib.Core.Bool.{Bool, true, false, false≢true, cond}
+use mathlib.Core.Path.{_≡_, refl, sym, ap, _∙_}
+use mathlib.Core.Bool.{Bool, true, false, cond}
 use mathlib.Core.List.{List, [], _∷_}
 use mathlib.Core.Logic.{_⊎_, inl, inr, _↔_}
 use native.Mathlib.Omega.{arith}
@@ -9,7 +9,7 @@ use lib.ListN.{length, getD}
 use Rattle.settings.specs.declared.Range.{Range}
 use Rattle.settings.specs.declared.Settings.{Settings}
 use Rattle.settings.specs.Sheet.{field, _to_, ranges, within, firstOutside, firstOutOfRange}
-use Rattle.slot_claims.specs.Sheet.{TypedSettings, rangeOf, IsField, AllInRange, FirstOut, SheetExactly, Sheets}
+use Rattle.slot_claims.specs.Sheet.{TypedSettings, TypedAgain, rangeOf, IsField, AllInRange, FirstOut, Sheets}
 
 -- the value at a place, counted from 0, is within the range there
 fitsAt : List Range → List ℕ → ℕ → Bool
@@ -119,7 +119,6 @@ module _ (s : Settings) (typed : TypedSettings s) where
     λ e.
         let found = first-out 0 ranges (s .fields) typed (number - 1) (e ∙ omega arith) in
         record {
-          isField = is;
           out = sym (fits-field number) ∙ found .0;
           earlier = λ before field less. sym (fits-field before) ∙ found .1 (before - 1) (omega arith);
         },
@@ -131,3 +130,6 @@ module _ (s : Settings) (typed : TypedSettings s) where
 
 pub sheets : Sheets
 sheets s typed = record { none = sheet-none s typed; first = sheet-first s typed }
+
+pub typed-again : TypedAgain
+typed-again = record { opened = λ p typed. typed; refused = refl; events = λ s e typed. typed }

@@ -1,7 +1,7 @@
 -- Tests that are joined, as equations.
 use mathlib.Core.Path.{_≡_, refl, sym, ap, _∙_}
-use mathlib.Core.Bool.{Bool, true, false, false≢true, not, _&&_, _||_, cond, or-true, or-false}
-use mathlib.Core.Logic.{_⊎_, inl, inr}
+use mathlib.Core.Bool.{Bool, true, false, false≢true, _&&_, _||_, cond, or-true, or-false}
+use mathlib.Core.Logic.{_⊎_, inl, inr, _↔_}
 
 pub both-true : (a b : Bool) → a && b ≡ true → (a ≡ true) × (b ≡ true)
 both-true true b e = (refl, e)
@@ -19,6 +19,12 @@ true-left a b e = ap (λ (x : Bool). x || b) e
 
 pub true-right : (a b : Bool) → b ≡ true → a || b ≡ true
 true-right a b e = ap (_||_ a) e ∙ or-true a
+
+-- each follows from the other
+pub same-true : (a b : Bool) → ((a ≡ true) ↔ (b ≡ true)) → a ≡ b
+same-true true b e = sym (e .0 refl)
+same-true false true e = e .1 refl
+same-true false false e = refl
 
 -- what is new stands before what was, wherever it came from
 pub or-between : (x new old : Bool) → x || (new || old) ≡ new || x || old

@@ -8,50 +8,56 @@ use borrow.Author.Tests.{leb-true, leb-false}
 use lib.Dec.{leb}
 use lib.ListN.{length, take, drop, length-drop, drop-of-length-le}
 use lib.Seq.{take-all, drop-drop}
-use Rattle.refusal.specs.Refusal.{first, ifAccepted}
+use Rattle.refusal.specs.Refusal.{first}
+use Rattle.refusal.proofs.FirstLaws.{if-accepted}
 use Rattle.frame.specs.declared.header.Slot.{Slot}
 use Rattle.frame.specs.declared.header.Cycle.{Cycle}
 use Rattle.settings.specs.declared.Settings.{Settings}
-use Rattle.settings.specs.Sheet.{firstOutOfRange}
 use Rattle.slot.specs.declared.status.Status.{Status}
 use Rattle.slot.specs.declared.opening.Opened.{Opened}
 use Rattle.slot.specs.declared.events.Judged.{Judged}
-use Rattle.slot.specs.Judging.{Event, noStatus, after}
-use Rattle.slot.specs.Sound.{openingRefusals, sound}
-use Rattle.slot.specs.Entries.{Told, told, OpenSays, eventRefusals, EventSays}
+use Rattle.slot.specs.Judging.{Event, placeBy, fresh, noStatus, after}
+use Rattle.slot.specs.Opening.{openingRefusals, Told, told, OpenSays}
+use Rattle.slot.specs.Sound.{sound}
+use Rattle.slot.specs.Events.{eventRefusals, leftBy, EventSays}
 use Rattle.slot.proofs.EventLaws as laws
-use Rattle.slot_claims.specs.Sheet.{TypedSettings}
+use Rattle.slot_claims.specs.Sheet.{TypedSettings, FieldTold}
 use Rattle.slot_claims.specs.Histories.{Calls}
-use Rattle.slot_claims.specs.Witnesses.{OpenedWell, FieldTold, JudgedWell, leftBy, Played}
+use Rattle.slot_claims.specs.Witnesses.{OpenedWell, JudgedWell, Played}
 use Rattle.slot_claims.proofs.Answers.{open-in-order, open-refused, event-in-order, event-refused}
 use Rattle.slot_claims.proofs.Sheet.{sheets}
-use Rattle.slot_claims.proofs.Sound.{no-status-unsound, opened-sound, event-sound}
+use Rattle.slot_claims.proofs.SoundCalls.{no-status-unsound, opened-sound, event-sound}
 use Rattle.slot_claims.proofs.Histories.{histories}
 
 -- ---- one call
 
-pub opened-well : (settings : Settings) (channel : ℕ) (slot : Slot) (cycle : Cycle) (r : Opened) → OpenSays settings channel slot cycle r
-    → OpenedWell settings channel slot cycle r
-opened-well settings channel slot cycle r says =
+field-told : (settings : Settings) (channel : ℕ) (slot : Slot) (cycle : Cycle) (r : Opened) → TypedSettings settings
+    → OpenSays settings channel slot cycle r → FieldTold settings (told (r .answer) .field)
+field-told settings channel slot cycle r typed says =
+    subst (FieldTold settings) (sym (ap (λ (t : Told). t .field) (says .answers))) (sheets settings typed)
+
+pub opened-well : (settings : Settings) (channel : ℕ) (slot : Slot) (cycle : Cycle) (r : Opened) → TypedSettings settings
+    → OpenSays settings channel slot cycle r → OpenedWell settings channel slot cycle r
+opened-well settings channel slot cycle r typed says =
     record {
       inOrder = open-in-order settings channel slot cycle r says;
-      accepted = opened-sound settings channel slot cycle r says;
+      field = field-told settings channel slot cycle r typed says;
+      accepted =
+          λ e.
+          let none : first (openingRefusals settings channel slot cycle) ≡ 0 = sym (ap (λ (t : Told). t .number) (says .answers)) ∙ e in (
+            says .leaves ∙ if-accepted _ (fresh (placeBy settings channel slot cycle)) noStatus none,
+            opened-sound settings channel slot cycle r says e,
+          );
       refused = open-refused settings channel slot cycle r says;
     }
 
-pub field-told : (settings : Settings) (channel : ℕ) (slot : Slot) (cycle : Cycle) (r : Opened) → TypedSettings settings
-    → OpenSays settings channel slot cycle r → FieldTold settings (told (r .answer) .field)
-field-told settings channel slot cycle r typed says =
-    let field : told (r .answer) .field ≡ firstOutOfRange settings = ap (λ (t : Told). t .field) (says .answers) in
-    let exactly = sheets settings typed in
-    record {
-      none = (λ e. exactly .none .0 (sym field ∙ e), λ all. field ∙ exactly .none .1 all);
-      first = λ number is. (λ e. exactly .first number is .0 (sym field ∙ e), λ f. field ∙ exactly .first number is .1 f);
-    }
-
-pub judged-well : (s : Status) (e : Event) (r : Judged) → EventSays s e r → JudgedWell s r
+pub judged-well : (s : Status) (e : Event) (r : Judged) → EventSays s e r → JudgedWell s e r
 judged-well s e r says =
-    record { inOrder = event-in-order s e r says; accepted = event-sound s e r says; refused = event-refused s e r says }
+    record {
+      inOrder = event-in-order s e r says;
+      accepted = λ z. (says .leaves ∙ if-accepted (first (eventRefusals s)) (after s e) s (sym (says .answers) ∙ z), event-sound s e r says z);
+      refused = event-refused s e r says;
+    }
 
 -- ---- many calls
 
@@ -91,7 +97,8 @@ was-played settings channel slot cycle r events s says end =
       opened =
           λ none.
           histories settings channel slot cycle r says (number ∙ none) events s
-          (subst (Calls (r .status) events) end (left-calls (r .status) events));
+          (subst (Calls (r .status) events) end (left-calls (r .status) events))
+          .1;
       refused =
           λ some.
           let none : r .status ≡ noStatus = open-refused settings channel slot cycle r says (λ e. some (sym number ∙ e)) in

@@ -11,8 +11,10 @@ use Rattle.slot.specs.declared.status.Status.{Status}
 use Rattle.slot.specs.declared.opening.Opened.{Opened}
 use Rattle.slot.specs.declared.events.Judged.{Judged}
 use Rattle.slot.specs.Judging.{Event, noStatus}
-use Rattle.slot.specs.Sound.{openingRefusals}
-use Rattle.slot.specs.Entries.{told, OpenSays, eventTold, eventRefusals, EventSays}
+use Rattle.slot.specs.Opening as opening
+use Rattle.slot.specs.Opening.{openingRefusals, OpenSays}
+use Rattle.slot.specs.Events as event
+use Rattle.slot.specs.Events.{eventRefusals, EventSays}
 
 -- ---- any two results that a statement allows are equal: answer and whole status
 
@@ -29,19 +31,19 @@ EventOne = (status : Status) (e : Event) (r s : Judged) → EventSays status e r
 abbrev pub OpenInOrder : Type 0
 OpenInOrder =
     (settings : Settings) (channel : ℕ) (slot : Slot) (cycle : Cycle) (r : Opened) → OpenSays settings channel slot cycle r
-    → InOrder (openingRefusals settings channel slot cycle) (told (r .answer) .number)
+    → InOrder (openingRefusals settings channel slot cycle) (opening.told (r .answer) .number)
 
 abbrev pub EventInOrder : Type 0
 EventInOrder =
-    (status : Status) (e : Event) (r : Judged) → EventSays status e r → InOrder (eventRefusals status) (eventTold (r .answer))
+    (status : Status) (e : Event) (r : Judged) → EventSays status e r → InOrder (eventRefusals status) (event.told (r .answer))
 
 -- ---- the status beside a refusal: all zeros where none was handed in, and otherwise the very one that was
 
 abbrev pub OpenRefused : Type 0
 OpenRefused =
     (settings : Settings) (channel : ℕ) (slot : Slot) (cycle : Cycle) (r : Opened) → OpenSays settings channel slot cycle r
-    → (told (r .answer) .number ≡ 0 → ⊥) → r .status ≡ noStatus
+    → (opening.told (r .answer) .number ≡ 0 → ⊥) → r .status ≡ noStatus
 
 abbrev pub EventRefused : Type 0
 EventRefused =
-    (status : Status) (e : Event) (r : Judged) → EventSays status e r → (eventTold (r .answer) ≡ 0 → ⊥) → r .status ≡ status
+    (status : Status) (e : Event) (r : Judged) → EventSays status e r → (event.told (r .answer) ≡ 0 → ⊥) → r .status ≡ status

@@ -1,5 +1,6 @@
 pub mod Answers
 pub mod Sheet
+pub mod Content
 pub mod Sound
 pub mod Histories
 pub mod Witnesses

@@ -6,18 +6,26 @@ use mathlib.Core.Logic.{_↔_}
 use lib.ListN.{length, getD}
 use Rattle.settings.specs.declared.Range.{Range}
 use Rattle.settings.specs.declared.Settings.{Settings}
-use Rattle.settings.specs.Sheet.{field, _to_, ranges, within, firstOutOfRange}
+use Rattle.settings.specs.Sheet.{fieldCount, field, _to_, ranges, within, firstOutOfRange}
+use Rattle.slot.specs.declared.status.Status.{Status}
+use Rattle.slot.specs.Judging.{Place, Event, fresh, noStatus, after}
 
 -- What the type of the settings says: a sheet has eleven fields.
 abbrev pub TypedSettings : Settings → Type 0
-TypedSettings s = length (s .fields) ≡ 11
+TypedSettings s = length (s .fields) ≡ fieldCount
+
+-- It holds of every sheet that a rule gives: of a fresh status, of the all-zero one, and after any event.
+pub record TypedAgain : Type 0 where
+  pub opened : (p : Place) → TypedSettings (p .settings) → TypedSettings (fresh p .settings)
+  pub refused : TypedSettings (noStatus .settings)
+  pub events : (s : Status) (e : Event) → TypedSettings (s .settings) → TypedSettings (after s e .settings)
 
 -- The range of the field with this number; fields are counted from 1.
 abbrev pub rangeOf : ℕ → Range
 rangeOf number = getD ranges (number - 1) (0 to 0)
 
 abbrev pub IsField : ℕ → Type 0
-IsField number = (1 ≤ number) × (number ≤ 11)
+IsField number = (1 ≤ number) × (number ≤ fieldCount)
 
 -- Every field is in its range.
 abbrev pub AllInRange : Settings → Type 0
@@ -25,14 +33,13 @@ AllInRange s = (number : ℕ) → IsField number → within (rangeOf number) (fi
 
 -- This field is out of its range, and no field before it is.
 pub record FirstOut (s : Settings) (number : ℕ) : Type 0 where
-  pub isField : IsField number
   pub out : within (rangeOf number) (field number s) ≡ false
   pub earlier : (before : ℕ) → IsField before → before < number → within (rangeOf before) (field before s) ≡ true
 
--- No field is told exactly where all are in range, and a field exactly where it is the first that is not.
-pub record SheetExactly (s : Settings) : Type 0 where
-  pub none : (firstOutOfRange s ≡ 0) ↔ AllInRange s
-  pub first : (number : ℕ) → IsField number → (firstOutOfRange s ≡ number) ↔ FirstOut s number
+-- No field is told, which is 0, exactly where all are in range, and a field exactly where it is the first that is not.
+pub record FieldTold (s : Settings) (told : ℕ) : Type 0 where
+  pub none : (told ≡ 0) ↔ AllInRange s
+  pub first : (number : ℕ) → IsField number → (told ≡ number) ↔ FirstOut s number
 
 abbrev pub Sheets : Type 0
-Sheets = (s : Settings) → TypedSettings s → SheetExactly s
+Sheets = (s : Settings) → TypedSettings s → FieldTold s (firstOutOfRange s)

@@ -4,12 +4,12 @@
 -- call returns a sound state."
 use Prim.Native.Nat.{ℕ}
 use mathlib.Core.Path.{_≡_}
-use mathlib.Core.Bool.{Bool, true, false}
+use mathlib.Core.Bool.{true, false}
 use mathlib.Core.List.{List}
 use mathlib.Core.Logic.{_⊎_, _↔_}
-use Rattle.refusal.specs.Refusal.{first}
 use Rattle.division.specs.Bits.{AreBytes}
 use Rattle.checksum.specs.declared.Channel.{Channel}
+use Rattle.checksum.specs.Channel.{numberOf}
 use Rattle.frame.specs.declared.header.Slot.{Slot}
 use Rattle.frame.specs.declared.header.Cycle.{Cycle}
 use Rattle.frame.specs.declared.header.Header.{Header}
@@ -21,9 +21,13 @@ use Rattle.slot.specs.declared.status.Kept.the-variants.{Frame}
 use Rattle.slot.specs.declared.status.Status.{Status}
 use Rattle.slot.specs.declared.opening.Opened.{Opened}
 use Rattle.slot.specs.declared.events.Judged.{Judged}
-use Rattle.slot.specs.Judging.{Event, placeOf, firstMiss, noStatus}
-use Rattle.slot.specs.Sound.{openingRefusals, numberOf, couldBeRead, sound}
-use Rattle.slot.specs.Entries.{told, OpenSays, eventTold, EventSays}
+use Rattle.slot.specs.Judging.{Event, placeOf, noStatus}
+use Rattle.slot.specs.Opening as opening
+use Rattle.slot.specs.Opening.{OpenSays}
+use Rattle.slot.specs.Sound.{couldBeRead, sound}
+use Rattle.slot.specs.Events as event
+use Rattle.slot.specs.Events.{EventSays}
+use Rattle.slot_claims.specs.Content.{Passes}
 
 -- Some byte string is accepted with this header on this channel.
 abbrev pub Readable : Channel → Header → Type 0
@@ -31,10 +35,10 @@ Readable channel header = (bytes : List ℕ) × AreBytes bytes × ReadOnSays cha
 
 -- 01's sentence in words.
 pub record SoundStatus (s : Status) : Type 0 where
-  pub opens : first (openingRefusals (s .settings) (numberOf (s .channel)) (s .slot) (s .cycle)) ≡ 0
+  pub opens : (r : Opened) × OpenSays (s .settings) (numberOf (s .channel)) (s .slot) (s .cycle) r × (opening.told (r .answer) .number ≡ 0)
   pub reason : (s .«content_error» ≡ true) ↔ (s .reason ≡ NoReason → ⊥)
   pub valid : (s .valid ≡ true) ↔ ((h : Header) × (s .kept ≡ Frame h))
-  pub kept : (h : Header) → s .kept ≡ Frame h → Readable (s .channel) h × (firstMiss (placeOf s) h ≡ NoReason)
+  pub kept : (h : Header) → s .kept ≡ Frame h → Readable (s .channel) h × Passes (placeOf s) h
   pub conflict : (s .conflict ≡ true)
       ↔ (s .«own_sending» ≡ true) × ((s .«syntax_error» ≡ true) ⊎ ((s .«content_error» ≡ true) ⊎ (s .valid ≡ true)))
 
@@ -54,8 +58,8 @@ NoStatusUnsound = sound noStatus ≡ false
 abbrev pub OpenedSound : Type 0
 OpenedSound =
     (settings : Settings) (channel : ℕ) (slot : Slot) (cycle : Cycle) (r : Opened) → OpenSays settings channel slot cycle r
-    → told (r .answer) .number ≡ 0 → sound (r .status) ≡ true
+    → opening.told (r .answer) .number ≡ 0 → sound (r .status) ≡ true
 
 abbrev pub EventSound : Type 0
 EventSound =
-    (status : Status) (e : Event) (r : Judged) → EventSays status e r → eventTold (r .answer) ≡ 0 → sound (r .status) ≡ true
+    (status : Status) (e : Event) (r : Judged) → EventSays status e r → event.told (r .answer) ≡ 0 → sound (r .status) ≡ true

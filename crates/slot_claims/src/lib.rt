@@ -4,9 +4,10 @@ ghost use mathlib.Core.Path.{_≡_};
 ghost use mathlib.Core.Bool.{true, false};
 ghost use mathlib.Core.Logic.{_↔_};
 ghost use Prim.Native.Nat.{_+_, _-_, _≤_, min};
-ghost use lib.ListN.{length};
+ghost use Rattle.slot.specs.Judging.{arrival, boundaryActivity, ownSending};
+ghost use Rattle.slot.specs.Events.{leftBy};
 ghost use Rattle.slot_claims.specs.Sound.{SoundStatus};
-ghost use Rattle.slot_claims.specs.Witnesses.{OpenedWell, FieldTold, JudgedWell, leftBy, eventOf, eventsOf, Played};
+ghost use Rattle.slot_claims.specs.Witnesses.{OpenedWell, JudgedWell, eventOf, eventsOf, Played};
 use frame::Cycle;
 use frame::Slot;
 use settings::Settings;
@@ -15,7 +16,7 @@ use slot::Opened;
 use slot::Status;
 
 // Whether a status is sound: exactly where it meets 01's sentence.
-pub fn is_sound(status: Status) -> bool
+pub fn is_sound_in_words(status: Status) -> bool
     ensures { λ r. ⌜ (r ≡ true) ↔ SoundStatus status ⌝ }
 {
     slot::is_sound(status)
@@ -28,37 +29,28 @@ pub fn none_is_sound() -> bool
     slot::is_sound(Status::none())
 }
 
-// The answer of opening, and the status beside it.
+// The answer of opening, with the field that it tells, and the status beside it.
 pub fn opened(settings: Settings, channel: u8, slot: Slot, cycle: Cycle) -> Opened
     ensures { λ r. ⌜ OpenedWell settings channel slot cycle r ⌝ }
 {
     slot::open_slot(settings, channel, slot, cycle)
 }
 
-// The field that opening tells: the first out of range.
-pub fn field_told(settings: Settings, channel: u8, slot: Slot, cycle: Cycle) -> u8
-    ensures { λ r. ⌜ FieldTold settings r ⌝ }
-{
-    let opened = slot::open_slot(settings, channel, slot, cycle);
-    let answer = opened.answer;
-    answer.field()
-}
-
 // The answer of each event, and the status beside it.
 pub fn judged_arrival(status: Status, bytes: &[u8]) -> Judged
-    ensures { λ r. ⌜ JudgedWell status r ⌝ }
+    ensures { λ r. ⌜ JudgedWell status (arrival (now (bytes .entry))) r ⌝ }
 {
     slot::arrived(status, bytes)
 }
 
 pub fn judged_boundary(status: Status) -> Judged
-    ensures { λ r. ⌜ JudgedWell status r ⌝ }
+    ensures { λ r. ⌜ JudgedWell status boundaryActivity r ⌝ }
 {
     slot::boundary(status)
 }
 
 pub fn judged_sending(status: Status) -> Judged
-    ensures { λ r. ⌜ JudgedWell status r ⌝ }
+    ensures { λ r. ⌜ JudgedWell status ownSending r ⌝ }
 {
     slot::sent(status)
 }

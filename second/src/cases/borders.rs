@@ -10,14 +10,11 @@ use crate::random::Random;
 use crate::reason::Reason;
 use crate::scene::{Kind, Scene};
 use crate::settings::{STATIC_SLOTS, STATIC_WORDS};
-use crate::slot_note::SlotNote;
-
-/// All ways in which null frame, sync and startup bit can stand, a read refusing startup without sync.
-const LOOKS: [u8; 6] = [0b00000, 0b00100, 0b01000, 0b01100, 0b11000, 0b11100];
+use crate::slot_note::{SlotNote, BORDERS, LOOKS};
 
 pub fn add(plan: &mut Plan, random: &mut Random) {
     for channel in Channel::BOTH {
-        for last_static in [2, 3, 500, 1022, 1023] {
+        for last_static in BORDERS {
             add_looks(plan, random, channel, last_static, last_static - 1, Kind::Static);
             add_looks(plan, random, channel, last_static, last_static, Kind::Static);
             add_looks(plan, random, channel, last_static, last_static + 1, Kind::Dynamic);

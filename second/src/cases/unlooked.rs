@@ -1,7 +1,7 @@
 //! What a script says of a status but nobody looks at: unnamed bits, and a header behind a kept switch of 0.
 
 use crate::history::{play, put, show, with_conflict, Happening};
-use crate::marks::Mark;
+use crate::marks::{Mark, NAMED_MARKS};
 use crate::plan::{Expected, Plan};
 use crate::random::Random;
 use crate::refusal::Refusal;
@@ -9,8 +9,6 @@ use crate::scene::Scene;
 use crate::script::Command;
 use crate::slot_note::{SlotNote, Sort};
 use crate::status_numbers::{HeaderNumbers, StatusNumbers};
-
-const ALL_MARKS: u8 = 0b11_1111;
 
 pub fn add(plan: &mut Plan, random: &mut Random) {
     for bit in [6, 7] {
@@ -41,7 +39,7 @@ fn add_unsound(plan: &mut Plan, numbers: &StatusNumbers) {
 }
 
 fn add_marks(plan: &mut Plan, random: &mut Random, bit: u8) {
-    for named in [0, ALL_MARKS] {
+    for named in [0, NAMED_MARKS] {
         let slot = Scene::any(random);
         let sound = slot.marked(random, with_conflict(named));
         let numbers = StatusNumbers { marks: sound.marks | 1 << bit, ..sound };
@@ -53,7 +51,7 @@ fn add_marks(plan: &mut Plan, random: &mut Random, bit: u8) {
 
 fn add_flags(plan: &mut Plan, random: &mut Random, bit: u8) {
     let slot = Scene::any(random);
-    let sound = slot.marked(random, ALL_MARKS);
+    let sound = slot.marked(random, NAMED_MARKS);
     let header = HeaderNumbers { flags: sound.header.flags | 1 << bit, ..sound.header };
     add_sound(plan, random, &slot, &StatusNumbers { header, ..sound }, SlotNote::UnnamedFlag(bit));
     add_unsound(plan, &StatusNumbers { header, marks: 0, ..sound });

@@ -1,6 +1,8 @@
 //! What a script must reach of the judgement of slots.
 
-use super::{coincidences, Reach, Reached};
+use std::mem;
+
+use super::{coincidences, required_answers, Reach, Reached};
 use crate::channel::Channel;
 use crate::history::with_conflict;
 use crate::plan::Note;
@@ -8,9 +10,9 @@ use crate::reason::Reason;
 use crate::refusal::{Refusal, OPEN_SLOT_ORDER, READ_ORDER};
 use crate::replay::Answer;
 use crate::scene::Kind;
-use crate::script::Opening;
+use crate::script::{Command, Opening};
 use crate::settings::{FIELDS, RANGES};
-use crate::slot_note::{Clause, Difference, First, SlotNote, Sort};
+use crate::slot_note::{Clause, Difference, First, SlotNote, Sort, BORDERS, LOOKS};
 use crate::status_numbers::StatusNumbers;
 
 const EVENTS: [char; 3] = ['A', 'B', 'X'];
@@ -44,10 +46,25 @@ impl Reached {
         self.from_opening = false;
     }
 
+    /// What was answered about frames counts until a command that can change the status: what is shown behind that one
+    /// is another status.
+    pub(super) fn follow_status(&mut self, command: &Command, answer: &Answer) {
+        match command {
+            Command::Checksum(_) | Command::Read(_) | Command::Write(_) => {
+                self.about_frames.insert((command.letter(), answer.number()));
+            }
+            Command::Show => (),
+            _ => self.about_frames.clear(),
+        }
+    }
+
     pub(super) fn add_shown(&mut self, numbers: &StatusNumbers) {
         if self.from_opening {
             self.add(Reach::MarksFromOpening(numbers.channel, numbers.marks));
         }
+        // A status that was lost would have no marks, so that without marks the showing proves nothing.
+        let answers = mem::take(&mut self.about_frames).into_iter().filter(|_| numbers.marks != 0);
+        answers.for_each(|(letter, number)| self.add(Reach::StatusStayed(letter, number)));
     }
 
     /// Marks that an opening and events led to, though 01 leaves no way to them.
@@ -69,7 +86,8 @@ pub(super) fn required() -> Vec<Reach> {
     let mut all: Vec<Reach> = marks_from_opening().collect();
     all.extend(answers());
     all.extend(openings());
-    let notes = [histories(), misses(), borders(), refused_openings(), clauses(), unlooked()];
+    all.extend(stayed());
+    let notes = [histories(), misses(), borders(), refused_openings(), clauses(), unlooked(), frames_between()];
     all.extend(notes.concat().into_iter().map(|note| Reach::Noted(Note::Slot(note))));
     all.extend(coincidences('S', &OPEN_SLOT_ORDER).into_iter().map(Reach::Noted));
     all
@@ -112,6 +130,14 @@ fn wrong_fields() -> Vec<(usize, u32)> {
     wrong.collect()
 }
 
+/// Every answer about a frame is given while a status is held.
+fn stayed() -> impl Iterator<Item = Reach> {
+    required_answers().into_iter().filter_map(|reach| match reach {
+        Reach::Answer(letter, number) => Some(Reach::StatusStayed(letter, number)),
+        _ => None,
+    })
+}
+
 fn histories() -> Vec<SlotNote> {
     let mut all = vec![SlotNote::RefusedAfterGood];
     all.extend(EVENTS.map(SlotNote::NeverOpened));
@@ -150,10 +176,9 @@ fn can_be_missed_together(first: Reason, later: Reason) -> bool {
 
 fn borders() -> Vec<SlotNote> {
     let mut all = Vec::new();
-    let around =
-        [2, 3, 500, 1022, 1023].into_iter().flat_map(|last| [last - 1, last, last + 1].map(|slot| (last, slot)));
+    let around = BORDERS.into_iter().flat_map(|last| [last - 1, last, last + 1].map(|slot| (last, slot)));
     for (last, slot) in around.chain([(2, 2047), (1023, 1), (1023, 2047)]) {
-        for look in [0b00000, 0b00100, 0b01000, 0b01100, 0b11000, 0b11100] {
+        for look in LOOKS {
             all.extend([false, true].map(|equal| SlotNote::Look(last.into(), slot, look, equal)));
         }
     }
@@ -206,4 +231,36 @@ fn unlooked() -> Vec<SlotNote> {
     all.extend([5, 6, 7].map(SlotNote::UnnamedFlag));
     all.extend((0..5).map(SlotNote::BehindKept));
     all
+}
+
+fn frames_between() -> Vec<SlotNote> {
+    Sort::ARRIVALS.map(|arrival| [true, false].map(|accepted| SlotNote::FramesBetween(arrival, accepted))).concat()
+}
+
+#[cfg(test)]
+mod tests {
+    use super::*;
+    use crate::plan::{Expected, Plan};
+    use crate::random::Random;
+    use crate::replay::{Outcome, Replay};
+    use crate::scene::Scene;
+
+    fn stays(commands: &[&Command]) -> bool {
+        let mut plan = Plan::default();
+        commands.iter().for_each(|command| plan.add((*command).clone(), Expected::Anything));
+        let outcomes: Vec<Outcome> = Replay::of(&plan.script()).collect();
+        Reached::count(&plan, &outcomes).counts.contains_key(&Reach::StatusStayed('F', 0))
+    }
+
+    #[test]
+    fn a_status_stays_where_it_has_marks_and_is_shown_unchanged() {
+        let open = Scene::any(&mut Random::from_seed(4)).open();
+        let (frame, event, show) = (Command::checksum(0, &[]), Command::OwnSending, Command::Show);
+        assert!(stays(&[&open, &event, &frame, &show]));
+        assert!(stays(&[&open, &event, &show, &frame, &frame, &show]));
+        assert!(!stays(&[&open, &event, &show, &frame]));
+        assert!(!stays(&[&open, &frame, &show]));
+        assert!(!stays(&[&open, &frame, &show, &event, &show]));
+        assert!(!stays(&[&open, &event, &frame, &event, &show]));
+    }
 }

@@ -1,5 +1,5 @@
 -- What the statement of an event gives.
-use Rattle.slot.specs.Judging.{boundary}
+use Rattle.slot.specs.Judging.{boundaryActivity}
 use Rattle.slot_claims.proofs.Witnesses.{judged-well}
 use borrow.Author.Needs.{needs}
 use Rattle.slot_claims.proofs.judged_boundary.Statement.{statement}
@@ -12,7 +12,7 @@ boundary-requires : tie.Need-boundary-requires
 boundary-requires c κs = search needs
 
 returns : tie.Need-returns
-returns c = judged-well (c .before .args .status) boundary (c .boundary .result) (c .boundary .ensures)
+returns c = judged-well (c .before .args .status) boundaryActivity (c .boundary .result) (c .boundary .ensures)
 
 pub judged-boundary-spec : {M : Type 1} → statement M
 judged-boundary-spec = tie.close (tie.spec boundary-requires returns)

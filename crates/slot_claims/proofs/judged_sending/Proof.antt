@@ -1,5 +1,5 @@
 -- What the statement of an event gives.
-use Rattle.slot.specs.Judging.{sending}
+use Rattle.slot.specs.Judging.{ownSending}
 use Rattle.slot_claims.proofs.Witnesses.{judged-well}
 use borrow.Author.Needs.{needs}
 use Rattle.slot_claims.proofs.judged_sending.Statement.{statement}
@@ -12,7 +12,7 @@ sent-requires : tie.Need-sent-requires
 sent-requires c κs = search needs
 
 returns : tie.Need-returns
-returns c = judged-well (c .before .args .status) sending (c .sent .result) (c .sent .ensures)
+returns c = judged-well (c .before .args .status) ownSending (c .sent .result) (c .sent .ensures)
 
 pub judged-sending-spec : {M : Type 1} → statement M
 judged-sending-spec = tie.close (tie.spec sent-requires returns)

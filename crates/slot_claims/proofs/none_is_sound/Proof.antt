@@ -1,7 +1,7 @@
 -- The all-zero status is not sound.
-use mathlib.Core.Path.{_≡_, ap, _∙_}
+use mathlib.Core.Path.{ap, _∙_}
 use Rattle.slot.specs.Sound.{sound}
-use Rattle.slot_claims.proofs.Sound.{no-status-unsound}
+use Rattle.slot_claims.proofs.SoundCalls.{no-status-unsound}
 use borrow.Author.Needs.{needs}
 use Rattle.slot_claims.proofs.none_is_sound.Statement.{statement}
 use Rattle.slot_claims.proofs.none_is_sound.Tie as tie

@@ -1,4 +1,6 @@
 -- What the statement of opening gives.
+use mathlib.Core.Path.{_≡_}
+use lib.ListN.{length}
 use Rattle.slot_claims.proofs.Witnesses.{opened-well}
 use borrow.Author.Needs.{needs}
 use Rattle.slot_claims.proofs.opened.Statement.{statement}
@@ -13,7 +15,8 @@ open-slot-requires c κs = search needs
 returns : tie.Need-returns
 returns c =
     let a = c .before .args in
-    opened-well (a .settings) (a .channel) (a .slot) (a .cycle) (c .«open-slot» .result) (c .«open-slot» .ensures)
+    let typed : length (a .settings .fields) ≡ 11 = search needs in
+    opened-well (a .settings) (a .channel) (a .slot) (a .cycle) (c .«open-slot» .result) typed (c .«open-slot» .ensures)
 
 pub opened-spec : {M : Type 1} → statement M
 opened-spec = tie.close (tie.spec open-slot-requires returns)

@@ -9,6 +9,7 @@ use Rattle.replay.proofs.sheet.take.Lts as lts
 use Rattle.replay.proofs.script.is_no_switch.Reads as is-no-switch-reads
 use Rattle.replay.proofs.script.take.Reads as take-reads
 use Rattle.replay.proofs.script.take_field.Reads as take-field-reads
+use Rattle.replay.proofs.sheet.script_error.Reads as script-error-reads
 
 abbrev Inv-loop : tie.InvT-loop
 Inv-loop fields₀ i₀ fields i = i ≤ 11
@@ -21,6 +22,9 @@ loop-holds c = omega arith
 
 take-field-requires : tie.Need-take-field-requires Inv-loop μ-loop
 take-field-requires c κs = search needs
+
+script-error-requires : tie.Need-script-error-requires Inv-loop μ-loop
+script-error-requires c κs = search needs
 
 returns : tie.Need-returns Inv-loop μ-loop
 returns c = search needs
@@ -46,6 +50,9 @@ slice-aggregate-take c = search needs
 take-requires : tie.Need-take-requires Inv-loop μ-loop
 take-requires c κs = search needs
 
+script-error-requires-2 : tie.Need-script-error-requires-2 Inv-loop μ-loop
+script-error-requires-2 c κs = search needs
+
 returns-2 : tie.Need-returns-2 Inv-loop μ-loop
 returns-2 c = search needs
 
@@ -55,11 +62,14 @@ array-read-is-no-switch c = omega arith
 is-no-switch-requires : tie.Need-is-no-switch-requires Inv-loop μ-loop
 is-no-switch-requires c κs = search needs
 
+script-error-requires-3 : tie.Need-script-error-requires-3 Inv-loop μ-loop
+script-error-requires-3 c κs = search needs
+
 returns-3 : tie.Need-returns-3 Inv-loop μ-loop
 returns-3 c = search needs
 
-array-read-t20 : tie.Need-array-read-t20 Inv-loop μ-loop
-array-read-t20 c = omega arith
+array-read-t16 : tie.Need-array-read-t16 Inv-loop μ-loop
+array-read-t16 c = omega arith
 
 returns-4 : tie.Need-returns-4 Inv-loop μ-loop
 returns-4 c = search needs
@@ -72,6 +82,7 @@ take-spec =
     μ-loop
     loop-holds
     take-field-requires
+    script-error-requires
     returns
     mul-fields
     array-write-fields
@@ -80,9 +91,11 @@ take-spec =
     loop-again
     slice-aggregate-take
     take-requires
+    script-error-requires-2
     returns-2
     array-read-is-no-switch
     is-no-switch-requires
+    script-error-requires-3
     returns-3
-    array-read-t20
+    array-read-t16
     returns-4)

@@ -2,7 +2,7 @@
 use mathlib.Core.Path.{_≡_, sym, ap, _∙_}
 use mathlib.Core.Bool.{true, false, not}
 use borrow.Author.Tests.{eq-eqb, ne-eqb}
-use Rattle.slot.specs.Judging.{placeOf, otherId, otherCycle, otherWords, syncOrStartup, nullFrame}
+use Rattle.slot.specs.Judging.{placeOf, otherId, otherCycle, otherWords, syncOrStartup}
 use borrow.Author.Needs.{needs}
 use Rattle.slot.proofs.content.first_miss.Statement.{statement}
 use Rattle.slot.proofs.content.first_miss.Tie as tie

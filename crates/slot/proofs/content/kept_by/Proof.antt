@@ -1,8 +1,7 @@
 -- A frame is kept where there is no reason.
-use mathlib.Core.Path.{_≡_, sym, _∙_, ap}
-use mathlib.Core.Bool.{Bool, true, false, cond}
+use mathlib.Core.Path.{_≡_, sym, _∙_}
+use mathlib.Core.Bool.{true, false}
 use Rattle.slot.specs.Judging.{isReason}
-use Rattle.slot.proofs.EventLaws.{kept-by-reason}
 use borrow.Author.Needs.{needs}
 use Rattle.slot.proofs.content.kept_by.Statement.{statement}
 use Rattle.slot.proofs.content.kept_by.Tie as tie
@@ -15,15 +14,13 @@ is-reason-requires c κs = search needs
 
 returns : tie.Need-returns
 returns c =
-    let a = c .before .before .args in
-    let found : isReason (a .reason) ≡ true = sym (c .before .«is-reason» .ensures) ∙ c .if1 .taken in
-    sym (kept-by-reason (a .reason) (a .header) ∙ rw found)
+    let found : isReason (c .before .before .args .reason) ≡ true = sym (c .before .«is-reason» .ensures) ∙ c .if1 .taken in
+    rw found
 
 returns-2 : tie.Need-returns-2
 returns-2 c =
-    let a = c .before .before .args in
-    let none : isReason (a .reason) ≡ false = sym (c .before .«is-reason» .ensures) ∙ c .if1 .left in
-    sym (kept-by-reason (a .reason) (a .header) ∙ rw none)
+    let none : isReason (c .before .before .args .reason) ≡ false = sym (c .before .«is-reason» .ensures) ∙ c .if1 .left in
+    rw none
 
 pub kept-by-spec : {M : Type 1} → statement M
 kept-by-spec = tie.close (tie.spec is-reason-requires returns returns-2)

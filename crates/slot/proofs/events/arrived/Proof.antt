@@ -1,14 +1,14 @@
 -- A sound status comes back with what the arrival brings, any other as it was.
-use mathlib.Core.Path.{_≡_, sym, subst, _∙_, ap}
+use mathlib.Core.Path.{_≡_, sym, subst, _∙_}
 use mathlib.Core.Bool.{true, false}
 use borrow.Author.Tests.{not-true, not-false}
 use denote.Ref.{now}
 use Rattle.frame.specs.declared.header.Header.{Header}
 use Rattle.frame.specs.declared.reader.Reading.the-variants.{Accepted}
 use Rattle.frame.specs.Read.{ReadOnSays}
-use Rattle.slot.specs.Judging.{Brought, arrival, placeOf, with}
+use Rattle.slot.specs.Judging.{arrival, placeOf}
 use Rattle.slot.specs.Sound.{sound}
-use Rattle.slot.specs.Entries.{EventSays}
+use Rattle.slot.specs.Events.{EventSays}
 use Rattle.slot.proofs.EventLaws.{not-accepted, brings-refusal, brings-frame, event-refused, event-recorded}
 use borrow.Author.Needs.{needs}
 use Rattle.slot.proofs.events.arrived.Statement.{statement}

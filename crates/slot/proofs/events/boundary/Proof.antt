@@ -2,9 +2,9 @@
 use mathlib.Core.Path.{_≡_, sym, subst, _∙_}
 use mathlib.Core.Bool.{true, false}
 use borrow.Author.Tests.{not-true, not-false}
-use Rattle.slot.specs.Judging.{boundary}
+use Rattle.slot.specs.Judging.{boundaryActivity}
 use Rattle.slot.specs.Sound.{sound}
-use Rattle.slot.specs.Entries.{EventSays}
+use Rattle.slot.specs.Events.{EventSays}
 use Rattle.slot.proofs.EventLaws.{first-reason-none, first-kept-none, event-refused, event-recorded}
 use borrow.Author.Needs.{needs}
 use Rattle.slot.proofs.events.boundary.Statement.{statement}
@@ -25,7 +25,7 @@ returns : tie.Need-returns
 returns c =
     let s = c .before .before .before .args .status in
     let unsound : sound s ≡ false = sym (c .before .before .«is-sound» .ensures) ∙ not-true _ (c .before .if1 .taken) in
-    subst (EventSays s boundary) (sym (c .«not-sound» .ensures)) (event-refused s boundary unsound)
+    subst (EventSays s boundaryActivity) (sym (c .«not-sound» .ensures)) (event-refused s boundaryActivity unsound)
 
 recorded-requires : tie.Need-recorded-requires
 recorded-requires c κs = search needs
@@ -34,8 +34,8 @@ returns-2 : tie.Need-returns-2
 returns-2 c =
     let s = c .before .before .before .args .status in
     let good : sound s ≡ true = sym (c .before .before .«is-sound» .ensures) ∙ not-false _ (c .before .if1 .left) in
-    subst (EventSays s boundary) (sym (c .recorded .ensures))
-    (event-recorded s boundary _ good (rw (first-reason-none (s .reason), first-kept-none (s .kept))))
+    subst (EventSays s boundaryActivity) (sym (c .recorded .ensures))
+    (event-recorded s boundaryActivity _ good (rw (first-reason-none (s .reason), first-kept-none (s .kept))))
 
 pub boundary-spec : {M : Type 1} → statement M
 boundary-spec =

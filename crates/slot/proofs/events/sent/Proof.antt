@@ -1,10 +1,10 @@
 -- A sound status comes back with own sending, and with a conflict if anything arrived before; any other as it was.
-use mathlib.Core.Path.{_≡_, sym, subst, _∙_}
-use mathlib.Core.Bool.{true, false}
+use mathlib.Core.Path.{_≡_, sym, ap, subst, _∙_}
+use mathlib.Core.Bool.{Bool, true, false, _||_}
 use borrow.Author.Tests.{not-true, not-false}
-use Rattle.slot.specs.Judging.{sending}
+use Rattle.slot.specs.Judging.{ownSending, hasArrival}
 use Rattle.slot.specs.Sound.{sound}
-use Rattle.slot.specs.Entries.{EventSays}
+use Rattle.slot.specs.Events.{EventSays}
 use Rattle.slot.proofs.EventLaws.{first-reason-none, first-kept-none, event-refused, event-recorded}
 use borrow.Author.Needs.{needs}
 use Rattle.slot.proofs.events.sent.Statement.{statement}
@@ -15,7 +15,7 @@ use Rattle.slot.proofs.events.not_sound.Reads as not-sound-reads
 use Rattle.slot.proofs.events.recorded.Reads as recorded-reads
 use Rattle.slot.proofs.sound.is_sound.Reads as is-sound-reads
 use Rattle.slot.proofs.status.Status.has_arrival.Reads as has-arrival-reads
-use Rattle.slot.proofs.status.either.Reads as either-reads
+use Rattle.slot.proofs.flags.either.Reads as either-reads
 
 is-sound-requires : tie.Need-is-sound-requires
 is-sound-requires c κs = search needs
@@ -27,7 +27,7 @@ returns : tie.Need-returns
 returns c =
     let s = c .before .before .before .args .status in
     let unsound : sound s ≡ false = sym (c .before .before .«is-sound» .ensures) ∙ not-true _ (c .before .if1 .taken) in
-    subst (EventSays s sending) (sym (c .«not-sound» .ensures)) (event-refused s sending unsound)
+    subst (EventSays s ownSending) (sym (c .«not-sound» .ensures)) (event-refused s ownSending unsound)
 
 has-arrival-requires : tie.Need-has-arrival-requires
 has-arrival-requires c κs = search needs
@@ -42,9 +42,10 @@ returns-2 : tie.Need-returns-2
 returns-2 c =
     let s = c .before .before .before .before .before .args .status in
     let good : sound s ≡ true = sym (c .before .before .before .before .«is-sound» .ensures) ∙ not-false _ (c .before .before .before .if1 .left) in
-    subst (EventSays s sending) (sym (c .recorded .ensures))
-    (event-recorded s sending _ good
-    (rw (c .before .either .ensures, c .before .before .«has-arrival» .ensures, first-reason-none (s .reason), first-kept-none (s .kept))))
+    let conflict : c .before .either .result ≡ hasArrival s || s .conflict =
+    c .before .either .ensures ∙ ap (λ (x : Bool). x || s .conflict) (c .before .before .«has-arrival» .ensures) in
+    subst (EventSays s ownSending) (sym (c .recorded .ensures))
+    (event-recorded s ownSending _ good (rw (conflict, first-reason-none (s .reason), first-kept-none (s .kept))))
 
 pub sent-spec : {M : Type 1} → statement M
 sent-spec =

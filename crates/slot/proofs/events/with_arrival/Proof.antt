@@ -1,4 +1,7 @@
--- Each field is what an arrival that is not refused leaves of it.
+-- Each field is what an arrival leaves of it.
+use mathlib.Core.Path.{_≡_, ap, _∙_}
+use mathlib.Core.Bool.{Bool, _||_}
+use Rattle.slot.specs.Judging.{isReason, isFrame, firstReason, firstKept}
 use borrow.Author.Needs.{needs}
 use Rattle.slot.proofs.events.with_arrival.Statement.{statement}
 use Rattle.slot.proofs.events.with_arrival.Tie as tie
@@ -8,19 +11,19 @@ use Rattle.slot.proofs.status.Kept.is_frame.Reads as is-frame-reads
 use Rattle.slot.proofs.status.Kept.or_later.Reads as status-Kept-or-later-reads
 use Rattle.slot.proofs.status.Reason.is_reason.Reads as is-reason-reads
 use Rattle.slot.proofs.status.Reason.or_later.Reads as status-Reason-or-later-reads
-use Rattle.slot.proofs.status.either.Reads as either-reads
+use Rattle.slot.proofs.flags.either.Reads as either-reads
 
 is-reason-requires : tie.Need-is-reason-requires
 is-reason-requires c κs = search needs
+
+is-frame-requires : tie.Need-is-frame-requires
+is-frame-requires c κs = search needs
 
 either-requires : tie.Need-either-requires
 either-requires c κs = search needs
 
 either-requires-2 : tie.Need-either-requires-2
 either-requires-2 c κs = search needs
-
-is-frame-requires : tie.Need-is-frame-requires
-is-frame-requires c κs = search needs
 
 either-requires-3 : tie.Need-either-requires-3
 either-requires-3 c κs = search needs
@@ -33,24 +36,26 @@ or-later-requires-2 c κs = search needs
 
 returns : tie.Need-returns
 returns c =
-    rw (
-      c .before .before .before .before .before .either .ensures,
-      c .before .before .before .before .before .before .«is-reason» .ensures,
-      c .before .before .before .before .either2 .ensures,
-      c .before .before .either3 .ensures,
-      c .before .before .before .«is-frame» .ensures,
-      c .before .«or-later» .ensures,
-      c .«or-later2» .ensures,
-    )
+    let e = c .before .before .before .before in
+    let a = e .before .before .before .before .before .before .args in
+    let s = a .status in
+    let content : e .either .result ≡ isReason (a .reason) || s .«content_error» =
+    e .either .ensures ∙ ap (λ (x : Bool). x || s .«content_error») (e .before .before .«is-reason» .ensures) in
+    let conflict : c .before .before .before .either2 .result ≡ s .«own_sending» || s .conflict = c .before .before .before .either2 .ensures in
+    let valid : c .before .before .either3 .result ≡ isFrame (a .kept) || s .valid =
+    c .before .before .either3 .ensures ∙ ap (λ (x : Bool). x || s .valid) (e .before .«is-frame» .ensures) in
+    let reason : c .before .«or-later» .result ≡ firstReason (s .reason) (a .reason) = c .before .«or-later» .ensures in
+    let kept : c .«or-later2» .result ≡ firstKept (s .kept) (a .kept) = c .«or-later2» .ensures in
+    rw (content, conflict, valid, reason, kept)
 
 pub with-arrival-spec : {M : Type 1} → statement M
 with-arrival-spec =
     tie.close
     (tie.spec
     is-reason-requires
+    is-frame-requires
     either-requires
     either-requires-2
-    is-frame-requires
     either-requires-3
     or-later-requires
     or-later-requires-2

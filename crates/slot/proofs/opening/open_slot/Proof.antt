@@ -2,18 +2,17 @@
 use mathlib.Core.Path.{_≡_, refl, sym, ap, subst, _∙_}
 use mathlib.Core.Bool.{true, false}
 use Prim.Native.Nat.{ℕ}
-use borrow.Author.Tests.{eqb-true, not-false}
 use Rattle.refusal.proofs.FirstLaws.{first-skip, first-here, first-end}
 use Rattle.checksum.specs.declared.Channel.{Channel}
 use Rattle.checksum.specs.Channel.{notAChannel, channelOf}
 use Rattle.checksum.proofs.ChannelLaws.{named-is, named-not}
 use Rattle.frame.specs.Refusals.{notAnId, cycleTooHigh}
-use Rattle.settings.specs.Sheet.{firstOutOfRange}
+use Rattle.settings.specs.Sheet.{firstOutOfRange, outOfRange}
 use Rattle.slot.specs.declared.opening.Opening.the-variants.{Opened, SettingOutOfRange, NotAChannel, NotASlot, CycleTooHigh}
-use Rattle.slot.specs.Judging.{Place, fresh, noStatus}
-use Rattle.slot.specs.Sound.{outOfRange}
-use Rattle.slot.specs.Entries.{Told, OpenSays}
-use Rattle.slot.proofs.OpeningLaws.{out-of-range, in-range, open-says}
+use Rattle.slot.specs.Judging.{fresh, noStatus}
+use Rattle.settings.proofs.SheetLaws.{out-of-range, in-range}
+use Rattle.slot.specs.Opening.{Told, OpenSays}
+use Rattle.slot.proofs.OpeningLaws.{open-says}
 use borrow.Author.Needs.{needs}
 use Rattle.slot.proofs.opening.open_slot.Statement.{statement}
 use Rattle.slot.proofs.opening.open_slot.Tie as tie

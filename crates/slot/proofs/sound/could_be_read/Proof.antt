@@ -1,9 +1,10 @@
 -- `could_be_read` asks for each range, for sync beside startup, and for the checksum.
 use mathlib.Core.Path.{_≡_, sym, ap, _∙_}
-use mathlib.Core.Bool.{true, false, not}
+use mathlib.Core.Bool.{true, false}
 use borrow.Author.Tests.{lt-leb, le-leb}
 use lib.Dec.{eqb, leb}
-use Rattle.frame.specs.Refusals.{notAnId, cycleTooHigh, startupWithoutSync}
+use Rattle.frame.specs.Layout.{headerChecksumOf}
+use Rattle.frame.specs.Refusals.{notAnId, cycleTooHigh}
 use borrow.Author.Needs.{needs}
 use Rattle.slot.proofs.sound.could_be_read.Statement.{statement}
 use Rattle.slot.proofs.sound.could_be_read.Tie as tie
@@ -56,12 +57,14 @@ checksum-due-requires c κs = search needs
 returns-5 : tie.Need-returns-5
 returns-5 c =
     let h = c .before .before .before .before .before .before .before .before .before .before .args .header in
+    let due : eqb (h .checksum) (c .before .«checksum-due» .result) ≡ eqb (h .checksum) (headerChecksumOf h) =
+    ap (eqb (h .checksum)) (c .before .«checksum-due» .ensures) in
     rw (
       an-id (c .before .before .before .before .before .before .before .before),
       words (c .before .before .before .before .before .before),
       cycle (c .before .before .before .before),
       sym (c .before .before .before .«startup-without-sync» .ensures) ∙ c .before .before .if4 .left,
-      sym (c .before .«checksum-due» .ensures),
+      due,
     )
 
 pub could-be-read-spec : {M : Type 1} → statement M

@@ -1,16 +1,16 @@
 -- The five clauses in their order: each return has those before it.
 use mathlib.Core.Path.{_≡_, sym, ap, _∙_}
-use mathlib.Core.Bool.{Bool, true, false, _&&_}
+use mathlib.Core.Bool.{true, _&&_}
 use borrow.Author.Tests.{not-true, not-false}
-use Rattle.slot.specs.Judging.{placeOf, isReason, isFrame}
+use Rattle.slot.specs.Judging.{placeOf, isReason, isFrame, hasArrival}
 use Rattle.slot.specs.Sound.{wouldOpen, keepsWell, exactlyWith}
 use borrow.Author.Needs.{needs}
 use Rattle.slot.proofs.sound.is_sound.Statement.{statement}
 use Rattle.slot.proofs.sound.is_sound.Tie as tie
 use Rattle.slot.proofs.sound.is_sound.Reads as reads
 use Rattle.slot.proofs.sound.is_sound.Lts as lts
-use Rattle.slot.proofs.sound.both.Reads as both-reads
-use Rattle.slot.proofs.sound.exactly_with.Reads as exactly-with-reads
+use Rattle.slot.proofs.flags.both.Reads as both-reads
+use Rattle.slot.proofs.flags.exactly_with.Reads as exactly-with-reads
 use Rattle.slot.proofs.sound.keeps_well.Reads as keeps-well-reads
 use Rattle.slot.proofs.sound.would_open.Reads as would-open-reads
 use Rattle.slot.proofs.status.Kept.is_frame.Reads as is-frame-reads
@@ -109,14 +109,15 @@ returns-5 : tie.Need-returns-5
 returns-5 c =
     let e = c .before .before .before in
     let s = e .before .before .before .before .before .before .before .before .before .before .args .status in
+    let conflict : c .«exactly-with3» .result ≡ exactlyWith (s .conflict) (s .«own_sending» && hasArrival s) =
+    c .«exactly-with3» .ensures
+    ∙ ap (exactlyWith (s .conflict)) (c .before .both .ensures ∙ ap (_&&_ (s .«own_sending»)) (c .before .before .«has-arrival» .ensures)) in
     rw (
       opened (e .before .before .before .before .before .before .before .before),
       with-content (e .before .before .before .before .before),
       with-valid (e .before .before),
-      well (e),
-      c .«exactly-with3» .ensures,
-      c .before .both .ensures,
-      c .before .before .«has-arrival» .ensures,
+      well e,
+      conflict,
     )
 
 pub is-sound-spec : {M : Type 1} → statement M

@@ -1,9 +1,9 @@
 -- What is kept decides: nothing is asked where there is no frame.
 use mathlib.Core.Path.{_≡_, sym, ap, _∙_}
-use mathlib.Core.Bool.{true, false, not}
+use mathlib.Core.Bool.{true, false}
 use borrow.Author.Tests.{not-true, not-false}
 use Rattle.frame.specs.declared.header.Header.{Header}
-use Rattle.slot.specs.Judging.{placeOf, isReason}
+use Rattle.slot.specs.Judging.{placeOf}
 use Rattle.slot.specs.Sound.{couldBeRead, keepsWell}
 use borrow.Author.Needs.{needs}
 use Rattle.slot.proofs.sound.keeps_well.Statement.{statement}

@@ -3,10 +3,11 @@ use mathlib.Core.Path.{_≡_, sym, ap, _∙_}
 use mathlib.Core.Bool.{true, false, not}
 use Prim.Native.Nat.{ℕ}
 use lib.Dec.{eqb}
-use Rattle.refusal.proofs.FirstLaws.{first-skip, first-here}
+use Rattle.refusal.proofs.FirstLaws.{first-skip, first-here, first-last}
 use Rattle.frame.specs.Refusals.{notAnId, cycleTooHigh}
-use Rattle.slot.specs.Sound.{outOfRange}
-use Rattle.slot.proofs.OpeningLaws.{out-of-range, in-range, is-a-channel, last-line}
+use Rattle.settings.specs.Sheet.{outOfRange}
+use Rattle.settings.proofs.SheetLaws.{out-of-range, in-range}
+use Rattle.checksum.proofs.ChannelLaws.{is-a-channel}
 use borrow.Author.Needs.{needs}
 use Rattle.slot.proofs.sound.would_open.Statement.{statement}
 use Rattle.slot.proofs.sound.would_open.Tie as tie
@@ -52,7 +53,7 @@ returns-3 c =
     ∙ sym
     (ap (λ (n : ℕ). eqb n 0)
     (first-skip 17 _ (sheet-in-range (c .before .before .before)) ∙ first-skip 1 _ (is-a-channel (s .channel)) ∙ first-skip 9 _ id)
-    ∙ last-line 10 (cycleTooHigh (s .cycle .0)))
+    ∙ first-last 10 (cycleTooHigh (s .cycle .0)))
 
 pub would-open-spec : {M : Type 1} → statement M
 would-open-spec =

@@ -1,25 +1,27 @@
--- The entries: what opening a slot and each event answer, and the status that comes back.
+-- Opening a slot: what it refuses, what it answers, and the status that comes back.
 use Prim.Native.Nat.{ℕ}
 use mathlib.Core.Path.{_≡_}
-use mathlib.Core.Bool.{not}
 use mathlib.Core.List.{List, [], _∷_}
 use Rattle.refusal.specs.Refusal.{Line, _when_, first, ifAccepted}
-use Rattle.checksum.specs.Channel.{channelOf}
+use Rattle.checksum.specs.Channel.{notAChannel}
 use Rattle.frame.specs.declared.header.Slot.{Slot}
 use Rattle.frame.specs.declared.header.Cycle.{Cycle}
+use Rattle.frame.specs.Refusals.{notAnId, cycleTooHigh}
 use Rattle.settings.specs.declared.Settings.{Settings}
-use Rattle.settings.specs.Sheet.{firstOutOfRange}
-use Rattle.slot.specs.declared.status.Status.{Status}
+use Rattle.settings.specs.Sheet.{firstOutOfRange, outOfRange}
 use Rattle.slot.specs.declared.opening.Opening.{Opening}
 use Rattle.slot.specs.declared.opening.Opening.the-variants as opening
 use Rattle.slot.specs.declared.opening.Opened.{Opened}
-use Rattle.slot.specs.declared.events.Recording.{Recording}
-use Rattle.slot.specs.declared.events.Recording.the-variants as recording
-use Rattle.slot.specs.declared.events.Judged.{Judged}
-use Rattle.slot.specs.Judging.{Place, Event, fresh, noStatus, after}
-use Rattle.slot.specs.Sound.{openingRefusals, sound}
+use Rattle.slot.specs.Judging.{placeBy, fresh, noStatus}
 
--- ---- opening
+-- "Open slot: 17, 1, 9, 11."
+abbrev pub openingRefusals : Settings → ℕ → Slot → Cycle → List Line
+openingRefusals settings channel slot cycle =
+    17 when outOfRange settings
+    ∷ 1 when notAChannel channel
+    ∷ 9 when notAnId (slot .0)
+    ∷ 11 when cycleTooHigh (cycle .0)
+    ∷ []
 
 -- What the answer says in 01's numbers: the refusal number, 0 for none, and the field number that 17 returns, 0 with any other.
 pub record Told : Type 0 where
@@ -37,23 +39,4 @@ told opening.CycleTooHigh = record { number = 11; field = 0 }
 -- given. The status is a fresh one, or, with a refusal, all zeros.
 pub record OpenSays (settings : Settings) (channel : ℕ) (slot : Slot) (cycle : Cycle) (r : Opened) : Type 0 where
   pub answers : told (r .answer) ≡ record { number = first (openingRefusals settings channel slot cycle); field = firstOutOfRange settings }
-  pub leaves : r .status
-      ≡ ifAccepted (first (openingRefusals settings channel slot cycle))
-      (fresh (record { settings = settings; channel = channelOf channel; slot = slot; cycle = cycle }))
-      noStatus
-
--- ---- events
-
--- What the answer says in 01's numbers.
-abbrev pub eventTold : Recording → ℕ
-eventTold recording.Recorded = 0
-eventTold recording.NotSound = 23
-
--- "Slot event: 23": "a state handed in isn't sound".
-abbrev pub eventRefusals : Status → List Line
-eventRefusals s = 23 when not (sound s) ∷ []
-
--- The answer's number is the refusal. The status is what the event leaves, or, with a refusal, the one that was handed in.
-pub record EventSays (s : Status) (e : Event) (r : Judged) : Type 0 where
-  pub answers : eventTold (r .answer) ≡ first (eventRefusals s)
-  pub leaves : r .status ≡ ifAccepted (first (eventRefusals s)) (after s e) s
+  pub leaves : r .status ≡ ifAccepted (first (openingRefusals settings channel slot cycle)) (fresh (placeBy settings channel slot cycle)) noStatus

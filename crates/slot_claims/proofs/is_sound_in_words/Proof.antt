@@ -1,11 +1,11 @@
 -- The answer is the rule, which is 01's sentence.
-use mathlib.Core.Path.{_≡_, sym, _∙_}
+use mathlib.Core.Path.{sym, _∙_}
 use Rattle.slot_claims.proofs.Sound.{sound-exactly}
 use borrow.Author.Needs.{needs}
-use Rattle.slot_claims.proofs.is_sound.Statement.{statement}
-use Rattle.slot_claims.proofs.is_sound.Tie as tie
-use Rattle.slot_claims.proofs.is_sound.Reads as reads
-use Rattle.slot_claims.proofs.is_sound.Lts as lts
+use Rattle.slot_claims.proofs.is_sound_in_words.Statement.{statement}
+use Rattle.slot_claims.proofs.is_sound_in_words.Tie as tie
+use Rattle.slot_claims.proofs.is_sound_in_words.Reads as reads
+use Rattle.slot_claims.proofs.is_sound_in_words.Lts as lts
 use Rattle.slot.proofs.is_sound.Reads as is-sound-reads
 
 is-sound-requires : tie.Need-is-sound-requires
@@ -16,5 +16,5 @@ returns c =
     let exactly = sound-exactly (c .before .args .status) in
     (λ t. exactly .0 (sym (c .«is-sound» .ensures) ∙ t), λ w. c .«is-sound» .ensures ∙ exactly .1 w)
 
-pub is-sound-spec : {M : Type 1} → statement M
-is-sound-spec = tie.close (tie.spec is-sound-requires returns)
+pub is-sound-in-words-spec : {M : Type 1} → statement M
+is-sound-in-words-spec = tie.close (tie.spec is-sound-requires returns)

@@ -1,0 +1,42 @@
+-- Claims about tests (a) to (e), in words: which reason is given for which frame.
+use Prim.Native.Nat.{_<_, _≤_}
+use mathlib.Core.Path.{_≡_}
+use mathlib.Core.Bool.{true, false}
+use mathlib.Core.Logic.{_⊎_, _↔_}
+use Rattle.frame.specs.declared.header.Header.{Header}
+use Rattle.settings.specs.Sheet.{staticPayloadWords, staticSlots}
+use Rattle.slot.specs.declared.status.Reason.{Reason}
+use Rattle.slot.specs.declared.status.Reason.the-variants.{NoReason, OtherId, OtherCycle, OtherWords, SyncOrStartup, NullFrame}
+use Rattle.slot.specs.Judging.{Place, firstMiss}
+
+abbrev pub Static : Place → Type 0
+Static p = p .slot .0 ≤ staticSlots (p .settings)
+
+abbrev pub Dynamic : Place → Type 0
+Dynamic p = staticSlots (p .settings) < p .slot .0
+
+abbrev pub SameId : Place → Header → Type 0
+SameId p h = h .id .0 ≡ p .slot .0
+
+abbrev pub SameCycle : Place → Header → Type 0
+SameCycle p h = h .cycle .0 ≡ p .cycle .0
+
+-- The frame passes all five.
+pub record Passes (p : Place) (h : Header) : Type 0 where
+  pub a : SameId p h
+  pub b : SameCycle p h
+  pub c : Static p → h .words ≡ staticPayloadWords (p .settings)
+  pub d : Dynamic p → (h .sync ≡ false) × (h .startup ≡ false)
+  pub e : Dynamic p → h .«null_frame_bit» ≡ true
+
+-- The test behind this reason is the first that the frame misses; without a reason it passes all.
+abbrev pub FirstMissed : Place → Header → Reason → Type 0
+FirstMissed p h NoReason = Passes p h
+FirstMissed p h OtherId = SameId p h → ⊥
+FirstMissed p h OtherCycle = SameId p h × (SameCycle p h → ⊥)
+FirstMissed p h OtherWords = SameId p h × SameCycle p h × Static p × (h .words ≡ staticPayloadWords (p .settings) → ⊥)
+FirstMissed p h SyncOrStartup = SameId p h × SameCycle p h × Dynamic p × ((h .sync ≡ true) ⊎ (h .startup ≡ true))
+FirstMissed p h NullFrame = SameId p h × SameCycle p h × Dynamic p × (h .sync ≡ false) × (h .startup ≡ false) × (h .«null_frame_bit» ≡ false)
+
+abbrev pub TestsExactly : Type 0
+TestsExactly = (p : Place) (h : Header) (reason : Reason) → (firstMiss p h ≡ reason) ↔ FirstMissed p h reason

@@ -1,0 +1,40 @@
+//! Frame commands between two showings of a status: they are about no slot, and the status stays as it is.
+
+use crate::channel::Channel;
+use crate::faults::{faulty_checksum, faulty_read, faulty_write};
+use crate::history::{demanded, play_opened, show, Happening};
+use crate::plan::Plan;
+use crate::random::Random;
+use crate::refusal::Refusal;
+use crate::scene::{Kind, Scene};
+use crate::slot_note::{SlotNote, Sort};
+
+pub fn add(plan: &mut Plan, random: &mut Random) {
+    for channel in Channel::BOTH {
+        for kind in Kind::BOTH {
+            for arrival in Sort::ARRIVALS {
+                let scene = Scene::fair(random, channel, kind);
+                add_undisturbed(plan, random, &scene, arrival);
+            }
+        }
+    }
+}
+
+/// Opens a slot in which bytes arrive, and shows the same status again after accepted and after refused frame commands.
+fn add_undisturbed(plan: &mut Plan, random: &mut Random, scene: &Scene, arrival: Sort) {
+    let history = [Happening::any(random, scene, arrival)];
+    let held = demanded(&scene.fresh(), &history);
+    play_opened(plan, scene, &history);
+    // The channel is the one cause that all three entries have.
+    for faults in [&[][..], &[Refusal::Channel]] {
+        add_frame_commands(plan, random, faults);
+        show(plan, &held);
+        plan.note_last(SlotNote::FramesBetween(arrival, faults.is_empty()));
+    }
+}
+
+fn add_frame_commands(plan: &mut Plan, random: &mut Random, faults: &[Refusal]) {
+    for command in [faulty_checksum(random, faults), faulty_read(random, faults), faulty_write(random, faults)] {
+        plan.add_faulty(command, faults);
+    }
+}
