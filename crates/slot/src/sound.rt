@@ -26,10 +26,9 @@ pub fn is_sound(status: Status) -> bool
     if !keeps_well(status, kept) {
         return false;
     }
-    flags::exactly_with(
-        status.conflict,
-        flags::both(status.own_sending, status.has_arrival()),
-    )
+    let has_arrival = status.has_arrival();
+    let is_conflict = flags::both(status.own_sending, has_arrival);
+    flags::exactly_with(status.conflict, is_conflict)
 }
 
 // Whether its settings, slot and cycle would open a slot. Its channel would: it is one.
