@@ -61,6 +61,7 @@ fresh p =
 abbrev pub noStatus : Status
 noStatus = fresh (record { settings = noSettings; channel = A; slot = record { 0 = 0 }; cycle = record { 0 = 0 } })
 
+-- What a status says that its slot was opened with.
 abbrev pub placeOf : Status → Place
 placeOf s = record { settings = s .settings; channel = s .channel; slot = s .slot; cycle = s .cycle }
 
@@ -129,14 +130,16 @@ pub record Brought : Type 0 where
   -- Own sending.
   pub sent : Bool
 
+-- What an arrival brings: whether it is refused, and a reason or a frame to keep.
 abbrev pub ofArrival : Bool → Reason → Kept → Brought
 ofArrival refused reason kept =
     record { arrived = true; refused = refused; reason = reason; kept = kept; atBoundary = false; sent = false }
 
--- "Each arrival is read on the slot's channel."
+-- "Each arrival is read on the slot's channel": a read refusal.
 abbrev pub isRefused : Channel → List ℕ → Bool
 isRefused channel bytes = not (eqb (first (refusalsOn channel bytes)) 0)
 
+-- What an event brings in a slot that was opened so.
 abbrev pub brings : Place → Event → Brought
 brings p (arrival bytes) =
     cond (isRefused (p .channel) bytes) (ofArrival true NoReason Nothing)
@@ -186,5 +189,6 @@ joined s b =
       kept = firstKept (s .kept) (b .kept);
     }
 
+-- The status after an event.
 abbrev pub after : Status → Event → Status
 after s e = joined s (brings (placeOf s) e)

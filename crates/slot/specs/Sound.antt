@@ -33,7 +33,7 @@ abbrev pub exactlyWith : Bool → Bool → Bool
 exactlyWith true b = b
 exactlyWith false b = not b
 
--- "A slot status is sound if": the five clauses of 01, one to a line.
+-- "A slot status is sound if": the five clauses of 01, in their order.
 abbrev pub sound : Status → Bool
 sound s =
     wouldOpen (placeOf s)

@@ -1,7 +1,7 @@
 -- What one event brings, in the words of a history.
 use Prim.Native.Nat.{ℕ}
 use mathlib.Core.Path.{_≡_, refl, sym, ap, _∙_, subst}
-use mathlib.Core.Bool.{Bool, true, false, false≢true, cond}
+use mathlib.Core.Bool.{Bool, true, false, false≢true}
 use mathlib.Core.List.{List}
 use mathlib.Core.Logic.{_⊎_, inl, inr, _↔_}
 use borrow.Author.Tests.{eqb-true, not-false}
@@ -12,6 +12,7 @@ use Rattle.frame.specs.Read as read
 use Rattle.frame.specs.Read.{headerRead, refusalsOn, ReadOnSays}
 use Rattle.slot.specs.declared.status.Reason.{Reason}
 use Rattle.slot.specs.declared.status.Reason.the-variants as reason
+use Rattle.slot.specs.declared.status.Kept.{Kept}
 use Rattle.slot.specs.declared.status.Kept.the-variants as kept
 use Rattle.slot.specs.Judging.{Place, Event, Brought, arrival, boundaryActivity, ownSending, firstMiss, keptBy, isReason, isFrame, isRefused, ofArrival, brings}
 use Rattle.slot.proofs.EventLaws.{brings-frame}
@@ -30,7 +31,7 @@ module _ (p : Place) (bytes : List ℕ) where
   accepts e = sym (ap (λ (n : ℕ). read.rule n bytes) (nothing-refused e))
 
   -- one or the other: reading refuses, or it accepts with some header
-  pub either-way : (isRefused (p .channel) bytes ≡ true) ⊎ ((h : Header) × ReadOnSays (p .channel) bytes (Accepted h))
+  either-way : (isRefused (p .channel) bytes ≡ true) ⊎ ((h : Header) × ReadOnSays (p .channel) bytes (Accepted h))
   either-way = by (isRefused (p .channel) bytes) refl
     where
       by : (b : Bool) → isRefused (p .channel) bytes ≡ b → (isRefused (p .channel) bytes ≡ true) ⊎ ((h : Header) × ReadOnSays (p .channel) bytes (Accepted h))
@@ -42,25 +43,27 @@ module _ (p : Place) (bytes : List ℕ) where
 
 -- ---- each kind of event
 
+-- arrived bytes are an arrival and nothing else
+only-arrival : (p : Place) (bytes : List ℕ)
+    → (brings p (arrival bytes) .arrived ≡ true) × (brings p (arrival bytes) .atBoundary ≡ false) × (brings p (arrival bytes) .sent ≡ false)
+only-arrival p bytes = by (either-way p bytes)
+  where
+    of : (refused : Bool) (r : Reason) (k : Kept) → brings p (arrival bytes) ≡ ofArrival refused r k
+        → (brings p (arrival bytes) .arrived ≡ true) × (brings p (arrival bytes) .atBoundary ≡ false) × (brings p (arrival bytes) .sent ≡ false)
+    of refused r k e = (ap (λ (b : Brought). b .arrived) e, ap (λ (b : Brought). b .atBoundary) e, ap (λ (b : Brought). b .sent) e)
+
+    by : (isRefused (p .channel) bytes ≡ true) ⊎ ((h : Header) × ReadOnSays (p .channel) bytes (Accepted h))
+        → (brings p (arrival bytes) .arrived ≡ true) × (brings p (arrival bytes) .atBoundary ≡ false) × (brings p (arrival bytes) .sent ≡ false)
+    by (inl out) = of true reason.NoReason kept.Nothing (brings-refused p bytes out)
+    by (inr a) = of false (firstMiss p (a .0)) (keptBy (firstMiss p (a .0)) (a .0)) (brings-frame p bytes (a .0) (a .1))
+
 pub arrives-exactly : (p : Place) (e : Event) → (brings p e .arrived ≡ true) ↔ Arrives e
-arrives-exactly p e = (there e, back)
+arrives-exactly p e = (there e, λ a. ap (λ (x : Event). brings p x .arrived) (a .1) ∙ only-arrival p (a .0) .0)
   where
     there : (e : Event) → brings p e .arrived ≡ true → Arrives e
     there (arrival bytes) t = (bytes, refl)
     there boundaryActivity t = absurd (false≢true t)
     there ownSending t = absurd (false≢true t)
-
-    here : (bytes : List ℕ) → brings p (arrival bytes) .arrived ≡ true
-    here bytes = by (isRefused (p .channel) bytes)
-      where
-        by : (b : Bool)
-            → cond b (ofArrival true reason.NoReason kept.Nothing) (ofArrival false (firstMiss p (headerRead bytes)) (keptBy (firstMiss p (headerRead bytes)) (headerRead bytes))) .arrived
-            ≡ true
-        by true = refl
-        by false = refl
-
-    back : Arrives e → brings p e .arrived ≡ true
-    back a = ap (λ (x : Event). brings p x .arrived) (a .1) ∙ here (a .0)
 
 pub refused-exactly : (p : Place) (e : Event) → (brings p e .refused ≡ true) ↔ ArrivesRefused p e
 refused-exactly p e = (there e, back)
@@ -132,11 +135,7 @@ boundary-exactly p e = (there e, λ same. ap (λ (x : Event). brings p x .atBoun
     there : (e : Event) → brings p e .atBoundary ≡ true → boundaryActivity ≡ e
     there boundaryActivity t = refl
     there ownSending t = absurd (false≢true t)
-    there (arrival bytes) t = absurd (by (either-way p bytes))
-      where
-        by : (isRefused (p .channel) bytes ≡ true) ⊎ ((h : Header) × ReadOnSays (p .channel) bytes (Accepted h)) → ⊥
-        by (inl out) = false≢true (sym (ap (λ (b : Brought). b .atBoundary) (brings-refused p bytes out)) ∙ t)
-        by (inr a) = false≢true (sym (ap (λ (b : Brought). b .atBoundary) (brings-frame p bytes (a .0) (a .1))) ∙ t)
+    there (arrival bytes) t = absurd (false≢true (sym (only-arrival p bytes .1) ∙ t))
 
 pub sending-exactly : (p : Place) (e : Event) → (brings p e .sent ≡ true) ↔ (ownSending ≡ e)
 sending-exactly p e = (there e, λ same. ap (λ (x : Event). brings p x .sent) (sym same))
@@ -144,8 +143,4 @@ sending-exactly p e = (there e, λ same. ap (λ (x : Event). brings p x .sent) (
     there : (e : Event) → brings p e .sent ≡ true → ownSending ≡ e
     there ownSending t = refl
     there boundaryActivity t = absurd (false≢true t)
-    there (arrival bytes) t = absurd (by (either-way p bytes))
-      where
-        by : (isRefused (p .channel) bytes ≡ true) ⊎ ((h : Header) × ReadOnSays (p .channel) bytes (Accepted h)) → ⊥
-        by (inl out) = false≢true (sym (ap (λ (b : Brought). b .sent) (brings-refused p bytes out)) ∙ t)
-        by (inr a) = false≢true (sym (ap (λ (b : Brought). b .sent) (brings-frame p bytes (a .0) (a .1))) ∙ t)
+    there (arrival bytes) t = absurd (false≢true (sym (only-arrival p bytes .2) ∙ t))

@@ -32,7 +32,7 @@ any f (e ∷ events) = f e || any f events
 some-later : {P : Event → Type 0} (e : Event) (events : List Event) → Some P events → Some P (e ∷ events)
 some-later e events s = (s .0, List·Memᴰ·tail (s .1), s .2)
 
-pub some-cases : {P : Event → Type 0} (e : Event) (events : List Event) → Some P (e ∷ events) → P e ⊎ Some P events
+some-cases : {P : Event → Type 0} (e : Event) (events : List Event) → Some P (e ∷ events) → P e ⊎ Some P events
 some-cases {P = P} e events s = by (List·Memᴰ·cases-cons (s .1))
   where
     by : (s .0 ≡ e) ⊎ List·Memᴰ (s .0) events → P e ⊎ Some P events

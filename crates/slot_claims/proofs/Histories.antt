@@ -22,16 +22,16 @@ use Rattle.slot_claims.proofs.Brings.{arrives-exactly, refused-exactly,
 
 -- ---- what the events leave of a status
 
-pub played : Status → List Event → Status
+played : Status → List Event → Status
 played s [] = s
 played s (e ∷ events) = played (after s e) events
 
-pub played-place : (s : Status) (events : List Event) → placeOf (played s events) ≡ placeOf s
+played-place : (s : Status) (events : List Event) → placeOf (played s events) ≡ placeOf s
 unfolding played
 played-place s [] = refl
 played-place s (e ∷ events) = played-place (after s e) events
 
-pub played-sound : (s : Status) (events : List Event) → sound s ≡ true → sound (played s events) ≡ true
+played-sound : (s : Status) (events : List Event) → sound s ≡ true → sound (played s events) ≡ true
 unfolding played
 played-sound s [] good = good
 played-sound s (e ∷ events) good = played-sound (after s e) events (after-sound s e good)
@@ -39,7 +39,7 @@ played-sound s (e ∷ events) good = played-sound (after s e) events (after-soun
 -- A flag stands at the end if some event set it or if it stood before.
 module _ (flag : Status → Bool) (sets : Brought → Bool)
     (once : (s : Status) (e : Event) → flag (after s e) ≡ sets (brings (placeOf s) e) || flag s) where
-  pub played-flag : (s : Status) (events : List Event) → flag (played s events) ≡ any (λ e. sets (brings (placeOf s) e)) events || flag s
+  played-flag : (s : Status) (events : List Event) → flag (played s events) ≡ any (λ e. sets (brings (placeOf s) e)) events || flag s
   unfolding played any
   played-flag s [] = refl
   played-flag s (e ∷ events) =
@@ -49,7 +49,7 @@ module _ (flag : Status → Bool) (sets : Brought → Bool)
 -- What is kept at the end is what was kept before, or the first that an event brought.
 module _ {A : Type 0} (is : A → Bool) (none : A) (only : (a : A) → is a ≡ false → a ≡ none) (keeps : Status → A) (gives : Brought → A)
     (once : (s : Status) (e : Event) → keeps (after s e) ≡ cond (is (keeps s)) (keeps s) (gives (brings (placeOf s) e))) where
-  pub played-first : (s : Status) (events : List Event)
+  played-first : (s : Status) (events : List Event)
       → keeps (played s events) ≡ cond (is (keeps s)) (keeps s) (firstIn is (λ e. gives (brings (placeOf s) e)) none events)
   unfolding played firstIn
   played-first s [] = by (is (keeps s)) refl
@@ -142,7 +142,7 @@ module _ (p : Place) (good : sound (fresh p) ≡ true) (events : List Event) whe
   arrived-exactly =
       flag-exactly p events hasArrival (λ b. b .arrived) (λ s e. has-after s (brings (placeOf s) e) (fits (placeOf s) e)) refl Arrives (arrives-exactly p)
 
-  pub history : History p events whole
+  history : History p events whole
   history =
       record {
         place = played-place (fresh p) events;

@@ -28,7 +28,7 @@ use Rattle.slot_claims.specs.Sound.{Readable, CouldBeReadExactly}
 use Rattle.slot_claims.proofs.Truth.{both-true}
 
 -- the five clauses
-pub could-parts : (h : Header) → couldBeRead h ≡ true
+could-parts : (h : Header) → couldBeRead h ≡ true
     → (notAnId (h .id .0) ≡ false) × (h .words ≤ 127) × (cycleTooHigh (h .cycle .0) ≡ false)
     × (startupWithoutSync (h .startup) (h .sync) ≡ false) × (h .checksum ≡ headerChecksumOf h)
 could-parts h e =
@@ -94,7 +94,7 @@ module _ (channel : Channel) (h : Header) (could : couldBeRead h ≡ true) where
       subst (λ (x : Header). Frame channel (frameBytes channel (fieldsOf h) payload) x payload) same-header
       (written-frame channel (fieldsOf h) payload payload-are (p .0) good-payload (p .2) (p .3))
 
-  pub is-readable : Readable channel h
+  is-readable : Readable channel h
   is-readable =
       let bytes = frameBytes channel (fieldsOf h) payload in (
         bytes,
@@ -104,7 +104,7 @@ module _ (channel : Channel) (h : Header) (could : couldBeRead h ≡ true) where
       )
 
 -- what reading with an accepted answer says
-pub accepted-none : (channel : Channel) (bytes : List ℕ) (h : Header) → ReadOnSays channel bytes (Accepted h)
+accepted-none : (channel : Channel) (bytes : List ℕ) (h : Header) → ReadOnSays channel bytes (Accepted h)
     → (first (refusalsOn channel bytes) ≡ 0) × (headerRead bytes ≡ h)
 accepted-none channel bytes h says =
     let none : first (refusalsOn channel bytes) ≡ 0 = sym (ap (λ (t : read.Told). t .number) says) in (

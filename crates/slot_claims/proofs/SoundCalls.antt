@@ -109,7 +109,7 @@ conflict-after false true false true e = refl
 conflict-after false true false false e = refl
 conflict-after false false own has e = refl
 
-pub joined-sound : (s : Status) (b : Brought) → sound s ≡ true → Fits (placeOf s) b → sound (joined s b) ≡ true
+joined-sound : (s : Status) (b : Brought) → sound s ≡ true → Fits (placeOf s) b → sound (joined s b) ≡ true
 joined-sound s b good f =
     let c = clauses s good in
     clauses-sound (joined s b)
@@ -128,7 +128,7 @@ pub after-sound : (s : Status) (e : Event) → sound s ≡ true → sound (after
 after-sound s e good = joined-sound s (brings (placeOf s) e) good (fits (placeOf s) e)
 
 -- an event that is recorded: the status handed in is sound
-pub recorded-sound : (s : Status) → first (eventRefusals s) ≡ 0 → sound s ≡ true
+recorded-sound : (s : Status) → first (eventRefusals s) ≡ 0 → sound s ≡ true
 recorded-sound s none = not-false (sound s) (first-zero 22 (not (sound s)) _ none .0)
 
 pub event-sound : EventSound

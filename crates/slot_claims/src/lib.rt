@@ -71,7 +71,7 @@ fn happened(status: Status, number: u16, bytes: &[u8]) -> Status
     judged.status
 }
 
-// Where the bytes of an event end that begin at a place: two fewer than its number behind it, or where there are no more.
+// Where an event's bytes end: two fewer than its number behind the place where they begin, or at the end of all bytes.
 fn end_of(at: usize, number: u16, length: usize) -> usize
     requires { ⌜ at ≤ length ⌝ }
     ensures { λ r. ⌜ r ≡ min (at + (number - 2)) length ⌝ }
