@@ -65,7 +65,8 @@ fn is_null_frame(status: Status, header: Header) -> bool
     if is_static(status) {
         return false;
     }
-    !header.null_frame_bit
+    let is_not_null = header.null_frame_bit;
+    !is_not_null
 }
 
 // The frame to keep: one that missed no test.

@@ -1,6 +1,6 @@
 -- A dynamic slot asks for a frame that is not a null frame, a static one does not.
-use mathlib.Core.Path.{_≡_, sym, _∙_}
-use mathlib.Core.Bool.{true, false}
+use mathlib.Core.Path.{_≡_, sym, ap, _∙_}
+use mathlib.Core.Bool.{Bool, true, false, not, _&&_}
 use Rattle.slot.specs.Judging.{placeOf, isStatic}
 use borrow.Author.Needs.{needs}
 use Rattle.slot.proofs.content.is_null_frame.Statement.{statement}
@@ -19,8 +19,9 @@ returns c =
 
 returns-2 : tie.Need-returns-2
 returns-2 c =
-    let dynamic : isStatic (placeOf (c .before .before .before .args .status)) ≡ false = sym (c .before .before .«is-static» .ensures) ∙ c .before .if1 .left in
-    rw dynamic
+    let a = c .before .before .args in
+    let dynamic : isStatic (placeOf (a .status)) ≡ false = sym (c .before .«is-static» .ensures) ∙ c .if1 .left in
+    sym (ap (λ (b : Bool). not b && not (a .header .«null_frame_bit»)) dynamic)
 
 pub is-null-frame-spec : {M : Type 1} → statement M
 is-null-frame-spec = tie.close (tie.spec is-static-requires returns returns-2)

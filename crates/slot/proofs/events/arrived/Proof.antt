@@ -1,15 +1,15 @@
 -- A sound status comes back with what the arrival brings, any other as it was.
-use mathlib.Core.Path.{_≡_, sym, subst, _∙_}
+use mathlib.Core.Path.{_≡_, sym, ap, subst, _∙_}
 use mathlib.Core.Bool.{true, false}
 use borrow.Author.Tests.{not-true, not-false}
 use denote.Ref.{now}
 use Rattle.frame.specs.declared.header.Header.{Header}
 use Rattle.frame.specs.declared.reader.Reading.the-variants.{Accepted}
 use Rattle.frame.specs.Read.{ReadOnSays}
-use Rattle.slot.specs.Judging.{arrival, placeOf}
+use Rattle.slot.specs.Judging.{arrival, placeOf, joined}
 use Rattle.slot.specs.Sound.{sound}
 use Rattle.slot.specs.Events.{EventSays}
-use Rattle.slot.proofs.EventLaws.{not-accepted, brings-refusal, brings-frame, event-refused, event-recorded}
+use Rattle.slot.proofs.EventLaws.{not-accepted, brings-refusal, after-refusal, brings-frame, event-refused, event-recorded}
 use borrow.Author.Needs.{needs}
 use Rattle.slot.proofs.events.arrived.Statement.{statement}
 use Rattle.slot.proofs.events.arrived.Tie as tie
@@ -59,7 +59,7 @@ returns-2 c =
     let brings = brings-refusal (placeOf (a .status)) (now (a .bytes)) (here .«read-on» .result) (here .«read-on» .ensures)
     (not-accepted (here .«read-on» .result) (c .before .before .match .keys2)) in
     subst (EventSays (a .status) e) (sym (c .recorded .ensures))
-    (event-recorded (a .status) e _ (good (here .before)) (rw (brings, c .before .«with-arrival» .ensures)))
+    (event-recorded (a .status) e _ (good (here .before)) (after-refusal (a .status) (c .before .«with-arrival» .result) (c .before .«with-arrival» .ensures) ∙ sym (ap (joined (a .status)) brings)))
 
 first-miss-requires : tie.Need-first-miss-requires
 first-miss-requires c κs = search needs

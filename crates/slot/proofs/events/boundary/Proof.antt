@@ -5,7 +5,7 @@ use borrow.Author.Tests.{not-true, not-false}
 use Rattle.slot.specs.Judging.{boundaryActivity}
 use Rattle.slot.specs.Sound.{sound}
 use Rattle.slot.specs.Events.{EventSays}
-use Rattle.slot.proofs.EventLaws.{first-reason-none, first-kept-none, event-refused, event-recorded}
+use Rattle.slot.proofs.EventLaws.{after-boundary, event-refused, event-recorded}
 use borrow.Author.Needs.{needs}
 use Rattle.slot.proofs.events.boundary.Statement.{statement}
 use Rattle.slot.proofs.events.boundary.Tie as tie
@@ -34,8 +34,7 @@ returns-2 : tie.Need-returns-2
 returns-2 c =
     let s = c .before .before .before .args .status in
     let good : sound s ≡ true = sym (c .before .before .«is-sound» .ensures) ∙ not-false _ (c .before .if1 .left) in
-    subst (EventSays s boundaryActivity) (sym (c .recorded .ensures))
-    (event-recorded s boundaryActivity _ good (rw (first-reason-none (s .reason), first-kept-none (s .kept))))
+    subst (EventSays s boundaryActivity) (sym (c .recorded .ensures)) (event-recorded s boundaryActivity _ good (after-boundary s))
 
 pub boundary-spec : {M : Type 1} → statement M
 boundary-spec =

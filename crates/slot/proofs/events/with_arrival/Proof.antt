@@ -46,7 +46,21 @@ returns c =
     c .before .before .either3 .ensures ∙ ap (λ (x : Bool). x || s .valid) (e .before .«is-frame» .ensures) in
     let reason : c .before .«or-later» .result ≡ firstReason (s .reason) (a .reason) = c .before .«or-later» .ensures in
     let kept : c .«or-later2» .result ≡ firstKept (s .kept) (a .kept) = c .«or-later2» .ensures in
-    rw (content, conflict, valid, reason, kept)
+    λ i.
+    record {
+      settings = s .settings;
+      channel = s .channel;
+      slot = s .slot;
+      cycle = s .cycle;
+      «syntax_error» = s .«syntax_error»;
+      «content_error» = content i;
+      «boundary_violation» = s .«boundary_violation»;
+      conflict = conflict i;
+      valid = valid i;
+      «own_sending» = s .«own_sending»;
+      reason = reason i;
+      kept = kept i;
+    }
 
 pub with-arrival-spec : {M : Type 1} → statement M
 with-arrival-spec =
