@@ -63,10 +63,12 @@ pub fn open_slot(settings: Settings, channel: u8, slot: Slot, cycle: Cycle) -> O
     let Named::Is(named) = Channel::named(channel) else {
         return refused(Opening::NotAChannel);
     };
-    if slot.is_not_an_id() {
+    let is_not_a_slot = slot.is_not_an_id();
+    let is_too_high = cycle.is_too_high();
+    if is_not_a_slot {
         return refused(Opening::NotASlot);
     }
-    if cycle.is_too_high() {
+    if is_too_high {
         return refused(Opening::CycleTooHigh);
     }
     Opened {

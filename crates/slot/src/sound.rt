@@ -73,6 +73,7 @@ fn could_be_read(header: Header) -> bool
     if frame::startup_without_sync(header.startup, header.sync) {
         return false;
     }
+    let checksum = header.checksum;
     let due = header.checksum_due();
-    header.checksum == due
+    checksum == due
 }

@@ -1,5 +1,7 @@
 -- `is_static` asks field 11.
+use mathlib.Core.Path.{ap}
 use borrow.Author.Needs.{needs}
+use lib.Dec.{leb}
 use Rattle.slot.proofs.content.is_static.Statement.{statement}
 use Rattle.slot.proofs.content.is_static.Tie as tie
 use Rattle.slot.proofs.content.is_static.Reads as reads
@@ -13,7 +15,7 @@ static-slots-requires : tie.Need-static-slots-requires
 static-slots-requires c κs = search needs
 
 returns : tie.Need-returns
-returns c = rw (c .«static-slots» .ensures)
+returns c = ap (leb (c .before .before .args .status .slot .0)) (c .«static-slots» .ensures)
 
 pub is-static-spec : {M : Type 1} → statement M
 is-static-spec = tie.close (tie.spec cast-result static-slots-requires returns)

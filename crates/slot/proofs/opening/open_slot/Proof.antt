@@ -42,8 +42,8 @@ named-one c =
     named-is (c .before .before .before .before .before .before .args .channel) (c .before .named2 .given .0 .0)
     (sym (c .before .before .before .named .ensures) ∙ c .before .named2 .given .1)
 
-an-id : (c : tie.Else2) → notAnId (c .before .before .before .before .before .before .before .before .args .slot .0) ≡ false
-an-id c = sym (c .before .«is-not-an-id» .ensures) ∙ c .if2 .left
+an-id : (c : tie.Else2) → notAnId (c .before .before .before .before .before .before .before .before .before .args .slot .0) ≡ false
+an-id c = sym (c .before .before .«is-not-an-id» .ensures) ∙ c .if2 .left
 
 -- ---- each return
 
@@ -86,20 +86,20 @@ returns-2 c =
 is-not-an-id-requires : tie.Need-is-not-an-id-requires
 is-not-an-id-requires c κs = search needs
 
+is-too-high-requires : tie.Need-is-too-high-requires
+is-too-high-requires c κs = search needs
+
 refused-requires-3 : tie.Need-refused-requires-3
 refused-requires-3 c κs = search needs
 
 returns-3 : tie.Need-returns-3
 returns-3 c =
-    let a = c .before .before .before .before .before .before .before .before .before .args in
-    let e = c .before .before .before .before .before .before .before in
-    let other : notAnId (a .slot .0) ≡ true = sym (c .before .before .«is-not-an-id» .ensures) ∙ c .before .if2 .taken in
+    let a = c .before .before .before .before .before .before .before .before .before .before .args in
+    let e = c .before .before .before .before .before .before .before .before in
+    let other : notAnId (a .slot .0) ≡ true = sym (c .before .before .before .«is-not-an-id» .ensures) ∙ c .before .if2 .taken in
     subst (OpenSays (a .settings) (a .channel) (a .slot) (a .cycle)) (sym (c .refused3 .ensures))
     (open-says (a .settings) (a .channel) (a .slot) (a .cycle) 9 NotASlot noStatus
-    (first-skip 17 _ (good-sheet e) ∙ first-skip 1 _ (named-one (c .before .before .before) .0) ∙ first-here 9 _ other) (no-field e 9) refl)
-
-is-too-high-requires : tie.Need-is-too-high-requires
-is-too-high-requires c κs = search needs
+    (first-skip 17 _ (good-sheet e) ∙ first-skip 1 _ (named-one (c .before .before .before .before) .0) ∙ first-here 9 _ other) (no-field e 9) refl)
 
 refused-requires-4 : tie.Need-refused-requires-4
 refused-requires-4 c κs = search needs
@@ -108,11 +108,11 @@ returns-4 : tie.Need-returns-4
 returns-4 c =
     let a = c .before .before .before .before .before .before .before .before .before .before .before .args in
     let e = c .before .before .before .before .before .before .before .before .before in
-    let high : cycleTooHigh (a .cycle .0) ≡ true = sym (c .before .before .«is-too-high» .ensures) ∙ c .before .if3 .taken in
+    let high : cycleTooHigh (a .cycle .0) ≡ true = sym (c .before .before .before .«is-too-high» .ensures) ∙ c .before .if3 .taken in
     subst (OpenSays (a .settings) (a .channel) (a .slot) (a .cycle)) (sym (c .refused4 .ensures))
     (open-says (a .settings) (a .channel) (a .slot) (a .cycle) 11 CycleTooHigh noStatus
     (first-skip 17 _ (good-sheet e) ∙ first-skip 1 _ (named-one (c .before .before .before .before .before) .0)
-    ∙ first-skip 9 _ (an-id (c .before .before .before)) ∙ first-here 11 _ high)
+    ∙ first-skip 9 _ (an-id (c .before .before)) ∙ first-here 11 _ high)
     (no-field e 11) refl)
 
 fresh-requires : tie.Need-fresh-requires
@@ -122,10 +122,10 @@ returns-5 : tie.Need-returns-5
 returns-5 c =
     let a = c .before .before .before .before .before .before .before .before .before .before .before .args in
     let e = c .before .before .before .before .before .before .before .before .before in
-    let low : cycleTooHigh (a .cycle .0) ≡ false = sym (c .before .before .«is-too-high» .ensures) ∙ c .before .if3 .left in
+    let low : cycleTooHigh (a .cycle .0) ≡ false = sym (c .before .before .before .«is-too-high» .ensures) ∙ c .before .if3 .left in
     let channel = named-one (c .before .before .before .before .before) in
     open-says (a .settings) (a .channel) (a .slot) (a .cycle) 0 Opened (c .fresh .result)
-    (first-skip 17 _ (good-sheet e) ∙ first-skip 1 _ (channel .0) ∙ first-skip 9 _ (an-id (c .before .before .before)) ∙ first-skip 11 _ low ∙ first-end)
+    (first-skip 17 _ (good-sheet e) ∙ first-skip 1 _ (channel .0) ∙ first-skip 9 _ (an-id (c .before .before)) ∙ first-skip 11 _ low ∙ first-end)
     (no-field e 0)
     (c .fresh .ensures
     ∙ ap (λ (k : Channel). fresh (record { settings = a .settings; channel = k; slot = a .slot; cycle = a .cycle })) (sym (channel .1)))
@@ -143,9 +143,9 @@ open-slot-spec =
     refused-requires-2
     returns-2
     is-not-an-id-requires
+    is-too-high-requires
     refused-requires-3
     returns-3
-    is-too-high-requires
     refused-requires-4
     returns-4
     fresh-requires

@@ -3,8 +3,10 @@ use mathlib.Core.Path.{_≡_, sym, ap, _∙_}
 use mathlib.Core.Bool.{true, false}
 use borrow.Author.Tests.{lt-leb, le-leb}
 use lib.Dec.{eqb, leb}
-use Rattle.frame.specs.Layout.{headerChecksumOf}
-use Rattle.frame.specs.Refusals.{notAnId, cycleTooHigh}
+use Rattle.frame.specs.declared.header.Header.{Header}
+use Rattle.frame.specs.Layout.{mostWords, headerChecksumOf}
+use Rattle.frame.specs.Refusals.{notAnId, cycleTooHigh, startupWithoutSync}
+use Rattle.slot.specs.Sound.{couldBeRead}
 use borrow.Author.Needs.{needs}
 use Rattle.slot.proofs.sound.could_be_read.Statement.{statement}
 use Rattle.slot.proofs.sound.could_be_read.Tie as tie
@@ -23,6 +25,11 @@ words c = le-leb _ _ (c .if2 .left)
 
 cycle : (c : tie.Else3) → cycleTooHigh (c .before .before .before .before .before .before .args .header .cycle .0) ≡ false
 cycle c = sym (c .before .«is-too-high» .ensures) ∙ c .if3 .left
+
+-- the clauses before the last hold, so that it decides
+checksum-left : (h : Header) → notAnId (h .id .0) ≡ false → leb (h .words) mostWords ≡ true → cycleTooHigh (h .cycle .0) ≡ false
+    → startupWithoutSync (h .startup) (h .sync) ≡ false → couldBeRead h ≡ eqb (h .checksum) (headerChecksumOf h)
+checksum-left h id words cycle startup = rw (id, words, cycle, startup)
 
 is-not-an-id-requires : tie.Need-is-not-an-id-requires
 is-not-an-id-requires c κs = search needs
@@ -56,16 +63,13 @@ checksum-due-requires c κs = search needs
 
 returns-5 : tie.Need-returns-5
 returns-5 c =
-    let h = c .before .before .before .before .before .before .before .before .before .before .args .header in
-    let due : eqb (h .checksum) (c .before .«checksum-due» .result) ≡ eqb (h .checksum) (headerChecksumOf h) =
-    ap (eqb (h .checksum)) (c .before .«checksum-due» .ensures) in
-    rw (
-      an-id (c .before .before .before .before .before .before .before .before),
-      words (c .before .before .before .before .before .before),
-      cycle (c .before .before .before .before),
-      sym (c .before .before .before .«startup-without-sync» .ensures) ∙ c .before .before .if4 .left,
-      due,
-    )
+    let h = c .before .before .before .before .before .before .before .before .before .args .header in
+    let due : eqb (h .checksum) (c .«checksum-due» .result) ≡ eqb (h .checksum) (headerChecksumOf h) =
+    ap (eqb (h .checksum)) (c .«checksum-due» .ensures) in
+    due
+    ∙ sym
+    (checksum-left h (an-id (c .before .before .before .before .before .before .before)) (words (c .before .before .before .before .before)) (cycle (c .before .before .before))
+    (sym (c .before .before .«startup-without-sync» .ensures) ∙ c .before .if4 .left))
 
 pub could-be-read-spec : {M : Type 1} → statement M
 could-be-read-spec =
