@@ -9,24 +9,29 @@ use Rattle.slot.specs.declared.status.Reason.{Reason}
 use Rattle.slot.specs.declared.status.Reason.the-variants.{NoReason, OtherId, OtherCycle, OtherWords, SyncOrStartup, NullFrame}
 use Rattle.slot.specs.Judging.{Place, firstMiss}
 
+-- "static if slot is at most field 11"; any other slot is dynamic.
 abbrev pub Static : Place → Type 0
 Static p = p .slot .0 ≤ staticSlots (p .settings)
 
 abbrev pub Dynamic : Place → Type 0
 Dynamic p = staticSlots (p .settings) < p .slot .0
 
+-- (a) "ID equals slot", and (b) "cycle equals cycle".
 abbrev pub SameId : Place → Header → Type 0
 SameId p h = h .id .0 ≡ p .slot .0
 
 abbrev pub SameCycle : Place → Header → Type 0
 SameCycle p h = h .cycle .0 ≡ p .cycle .0
 
--- The frame passes all five.
+-- The frame passes (a) to (e).
 pub record Passes (p : Place) (h : Header) : Type 0 where
   pub a : SameId p h
   pub b : SameCycle p h
+  -- "static: words equal field 10".
   pub c : Static p → h .words ≡ staticPayloadWords (p .settings)
+  -- "dynamic: sync and startup clear".
   pub d : Dynamic p → (h .sync ≡ false) × (h .startup ≡ false)
+  -- "dynamic: not a null frame", in which the bit would be 0.
   pub e : Dynamic p → h .«null_frame_bit» ≡ true
 
 -- The test behind this reason is the first that the frame misses; without a reason it passes all.
@@ -38,5 +43,6 @@ FirstMissed p h OtherWords = SameId p h × SameCycle p h × Static p × (h .word
 FirstMissed p h SyncOrStartup = SameId p h × SameCycle p h × Dynamic p × ((h .sync ≡ true) ⊎ (h .startup ≡ true))
 FirstMissed p h NullFrame = SameId p h × SameCycle p h × Dynamic p × (h .sync ≡ false) × (h .startup ≡ false) × (h .«null_frame_bit» ≡ false)
 
+-- The rule gives each frame the reason that belongs to it.
 abbrev pub TestsExactly : Type 0
 TestsExactly = (p : Place) (h : Header) (reason : Reason) → (firstMiss p h ≡ reason) ↔ FirstMissed p h reason
