@@ -71,10 +71,11 @@ brings-frame p bytes h says =
     sym (ap (λ (t : read.Told). t .header) says ∙ ap (λ (n : ℕ). ifAccepted n (headerRead bytes) read.noHeader) none) in
     rw (accepted, same)
 
--- ---- whole statuses
+-- ---- one flag set
 
-pub after-boundary : (s : Status)
-    → record {
+abbrev withBoundary : Status → Status
+withBoundary s =
+    record {
       settings = s .settings;
       channel = s .channel;
       slot = s .slot;
@@ -88,59 +89,31 @@ pub after-boundary : (s : Status)
       reason = s .reason;
       kept = s .kept;
     }
-    ≡ after s boundaryActivity
-after-boundary s =
-    let reason : s .reason ≡ firstReason (s .reason) reason.NoReason = sym (first-reason-none (s .reason)) in
-    let kept : s .kept ≡ firstKept (s .kept) kept.Nothing = sym (first-kept-none (s .kept)) in
-    λ i.
+
+pub after-boundary : (s : Status) → withBoundary s ≡ after s boundaryActivity
+after-boundary s = rw (first-reason-none (s .reason), first-kept-none (s .kept))
+
+abbrev withSyntax : Status → Status
+withSyntax s =
     record {
       settings = s .settings;
       channel = s .channel;
       slot = s .slot;
       cycle = s .cycle;
-      «syntax_error» = s .«syntax_error»;
+      «syntax_error» = true;
       «content_error» = s .«content_error»;
-      «boundary_violation» = true;
+      «boundary_violation» = s .«boundary_violation»;
       conflict = s .conflict;
       valid = s .valid;
       «own_sending» = s .«own_sending»;
-      reason = reason i;
-      kept = kept i;
+      reason = s .reason;
+      kept = s .kept;
     }
 
 -- an arrival that is refused leaves what one without a reason and a frame leaves, and the syntax error
 pub after-refusal : (s t : Status) → t ≡ joined s (ofArrival false reason.NoReason kept.Nothing)
-    → record {
-      settings = t .settings;
-      channel = t .channel;
-      slot = t .slot;
-      cycle = t .cycle;
-      «syntax_error» = true;
-      «content_error» = t .«content_error»;
-      «boundary_violation» = t .«boundary_violation»;
-      conflict = t .conflict;
-      valid = t .valid;
-      «own_sending» = t .«own_sending»;
-      reason = t .reason;
-      kept = t .kept;
-    }
-    ≡ joined s (ofArrival true reason.NoReason kept.Nothing)
-after-refusal s t same =
-    λ i.
-    record {
-      settings = same i .settings;
-      channel = same i .channel;
-      slot = same i .slot;
-      cycle = same i .cycle;
-      «syntax_error» = true;
-      «content_error» = same i .«content_error»;
-      «boundary_violation» = same i .«boundary_violation»;
-      conflict = same i .conflict;
-      valid = same i .valid;
-      «own_sending» = same i .«own_sending»;
-      reason = same i .reason;
-      kept = same i .kept;
-    }
+    → withSyntax t ≡ joined s (ofArrival true reason.NoReason kept.Nothing)
+after-refusal s t same = ap withSyntax same
 
 -- ---- the statement
 
