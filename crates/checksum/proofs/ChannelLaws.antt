@@ -29,11 +29,14 @@ pub is-named : (number : ℕ) → notAChannel number ≡ false → namedBy numbe
 unfolding namedBy
 is-named number e = ap (λ (b : Bool). cond b NotAChannel (Is (channelOf number))) e
 
--- a channel has a number that names it
+-- a channel's number names it
+pub number-names : (channel : Channel) → namedBy (numberOf channel) ≡ Is channel
+unfolding namedBy notAChannel channelOf
+number-names A = refl
+number-names B = refl
+
 pub is-a-channel : (channel : Channel) → notAChannel (numberOf channel) ≡ false
-unfolding notAChannel
-is-a-channel A = refl
-is-a-channel B = refl
+is-a-channel channel = named-is (numberOf channel) channel (number-names channel) .0
 
 -- of one number there is one channel
 pub one-channel : (number : ℕ) (a b : Channel) → namedBy number ≡ Is a → namedBy number ≡ Is b → a ≡ b

@@ -8,6 +8,7 @@ ghost use mathlib.Core.List.{[], _∷_};
 ghost use Prim.Native.Nat.{_<_, _≤_, _^_, min};
 ghost use Rattle.division.specs.Bits.{bits, bytesBits};
 ghost use Rattle.division.specs.Division.{Fed};
+ghost use Rattle.checksum.specs.declared.Named.the-variants.{Is};
 ghost use Rattle.checksum.specs.Channel.{numberOf, startOf, namedBy};
 ghost use Rattle.checksum.specs.Checksums.{headerDivision, framePolynomial, frameChecksum};
 ghost use Rattle.checksum.specs.FrameChecksum.{told, FrameChecksumSays};
@@ -51,8 +52,10 @@ impl Channel {
         Named::NotAChannel
     }
 
+    // The number that names this channel.
     pub fn number(self) -> u8
         ensures { λ r. ⌜ r ≡ numberOf self ⌝ }
+        ensures { λ r. ⌜ namedBy r ≡ Is self ⌝ }
     {
         match self {
             Channel::A => 0,

@@ -17,6 +17,7 @@ fieldCount = 11
 abbrev pub field : ℕ → Settings → ℕ
 field number s = getD (s .fields) (number - 1) 0
 
+-- 01's fields, 1 to 11.
 abbrev pub decodingCorrection : Settings → ℕ
 decodingCorrection = field 1
 
@@ -53,6 +54,7 @@ staticSlots = field 11
 -- ---- their ranges
 
 infix 70 _to_
+-- From a lowest value to a highest.
 abbrev pub _to_ : ℕ → ℕ → Range
 lowest to highest = record { lowest = lowest; highest = highest }
 

@@ -1,7 +1,7 @@
 // The settings sheet of a node (document 01, "Settings sheet"): eleven numbers, each with its range, and a yes or no.
 //
-// For the crates above: `Settings`, which holds any numbers, a name for each field, and `first_out_of_range`, by which loading
-// and opening refuse a sheet.
+// For the crates above: `Settings`, which holds any numbers, a name for each field, and `first_out_of_range`, by which opening a
+// slot refuses a sheet.
 ghost use mathlib.Core.Path.{_≡_};
 ghost use Prim.Native.Nat.{_<_, _≤_};
 ghost use Rattle.settings.specs.Sheet.{fieldCount, within, noSettings, field as Sheet·field, firstOutOfRange, decodingCorrection, delayA, delayB, syncIdLimit, offsetLimit, rateLimit, driftDamping, externalOffsetUnit, externalRateUnit, staticPayloadWords, staticSlots};

@@ -8,7 +8,8 @@ use borrow.Author.Tests.{eq-eqb, ne-eqb}
 use denote.Enum.Declared.{tagOf}
 use types.Run.{OneOf, miss}
 use Rattle.refusal.specs.Refusal.{first, ifAccepted}
-use Rattle.refusal.proofs.FirstLaws.{first-skip, first-here, first-end}
+use Rattle.refusal.proofs.FirstLaws.{first-skip, first-here, first-end, if-accepted}
+use Rattle.checksum.specs.declared.Channel.{Channel}
 use Rattle.frame.specs.declared.header.Header.{Header}
 use Rattle.frame.proofs.reader.Reading.{the-type}
 use Rattle.frame.specs.declared.reader.Reading.{Reading}
@@ -53,23 +54,32 @@ not-accepted reading.IdZero k e = omega arith
 not-accepted reading.StartupWithoutSync k e = omega arith
 not-accepted reading.FrameChecksumDiffers k e = omega arith
 
-module _ (p : Place) (bytes : List ℕ) (r : Reading) (says : ReadOnSays (p .channel) bytes r) where
-  number : read.told r .number ≡ first (refusalsOn (p .channel) bytes)
-  number = ap (λ (t : read.Told). t .number) says
+pub brings-refused : (p : Place) (bytes : List ℕ) → isRefused (p .channel) bytes ≡ true
+    → brings p (arrival bytes) ≡ ofArrival true reason.NoReason kept.Nothing
+brings-refused p bytes out = rw out
 
-  pub brings-refusal : (read.told r .number ≡ 0 → ⊥) → brings p (arrival bytes) ≡ ofArrival true reason.NoReason kept.Nothing
-  brings-refusal refused =
-      let out : isRefused (p .channel) bytes ≡ true = ap not (ne-eqb (first (refusalsOn (p .channel) bytes)) 0 (λ e. refused (number ∙ e))) in
-      rw out
+pub brings-refusal : (p : Place) (bytes : List ℕ) (r : Reading) → ReadOnSays (p .channel) bytes r → (read.told r .number ≡ 0 → ⊥)
+    → brings p (arrival bytes) ≡ ofArrival true reason.NoReason kept.Nothing
+brings-refusal p bytes r says refused =
+    brings-refused p bytes
+    (ap not
+    (ne-eqb (first (refusalsOn (p .channel) bytes)) 0 (λ e. refused (ap (λ (t : read.Told). t .number) says ∙ e))))
+
+-- an accepted answer: nothing is refused, and the header is the one that was read
+pub accepted-none : (channel : Channel) (bytes : List ℕ) (h : Header) → ReadOnSays channel bytes (reading.Accepted h)
+    → (first (refusalsOn channel bytes) ≡ 0) × (headerRead bytes ≡ h)
+accepted-none channel bytes h says =
+    let none : first (refusalsOn channel bytes) ≡ 0 = sym (ap (λ (t : read.Told). t .number) says) in (
+      none,
+      sym (ap (λ (t : read.Told). t .header) says ∙ if-accepted (first (refusalsOn channel bytes)) (headerRead bytes) read.noHeader none),
+    )
 
 pub brings-frame : (p : Place) (bytes : List ℕ) (h : Header) → ReadOnSays (p .channel) bytes (reading.Accepted h)
     → brings p (arrival bytes) ≡ ofArrival false (firstMiss p h) (keptBy (firstMiss p h) h)
 brings-frame p bytes h says =
-    let none : first (refusalsOn (p .channel) bytes) ≡ 0 = sym (ap (λ (t : read.Told). t .number) says) in
-    let accepted : isRefused (p .channel) bytes ≡ false = ap not (eq-eqb (first (refusalsOn (p .channel) bytes)) 0 none) in
-    let same : headerRead bytes ≡ h =
-    sym (ap (λ (t : read.Told). t .header) says ∙ ap (λ (n : ℕ). ifAccepted n (headerRead bytes) read.noHeader) none) in
-    rw (accepted, same)
+    let a = accepted-none (p .channel) bytes h says in
+    let accepted : isRefused (p .channel) bytes ≡ false = ap not (eq-eqb (first (refusalsOn (p .channel) bytes)) 0 (a .0)) in
+    rw (accepted, a .1)
 
 -- ---- one flag set
 

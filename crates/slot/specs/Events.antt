@@ -24,6 +24,7 @@ eventRefusals s = 23 when not (sound s) ∷ []
 abbrev pub leftBy : Status → Event → Status
 leftBy s e = ifAccepted (first (eventRefusals s)) (after s e) s
 
+-- The answer's number is the refusal, and the status is the one that comes back.
 pub record EventSays (s : Status) (e : Event) (r : Judged) : Type 0 where
   pub answers : told (r .answer) ≡ first (eventRefusals s)
   pub leaves : r .status ≡ leftBy s e

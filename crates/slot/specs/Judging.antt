@@ -67,33 +67,33 @@ placeOf s = record { settings = s .settings; channel = s .channel; slot = s .slo
 
 -- ---- a frame
 
--- Tests (a) to (e), each by what misses it.
+-- Tests (a) to (e), each by what misses it. (c) is for static slots, (d) and (e) are for dynamic ones.
 -- (a) "ID equals slot".
-abbrev pub otherId : Place → Header → Bool
-otherId p h = not (eqb (h .id .0) (p .slot .0))
+abbrev pub missesId : Place → Header → Bool
+missesId p h = not (eqb (h .id .0) (p .slot .0))
 
 -- (b) "cycle equals cycle".
-abbrev pub otherCycle : Place → Header → Bool
-otherCycle p h = not (eqb (h .cycle .0) (p .cycle .0))
+abbrev pub missesCycle : Place → Header → Bool
+missesCycle p h = not (eqb (h .cycle .0) (p .cycle .0))
 
 -- (c) "static: words equal field 10".
-abbrev pub otherWords : Place → Header → Bool
-otherWords p h = isStatic p && not (eqb (h .words) (staticPayloadWords (p .settings)))
+abbrev pub missesWords : Place → Header → Bool
+missesWords p h = isStatic p && not (eqb (h .words) (staticPayloadWords (p .settings)))
 
 -- (d) "dynamic: sync and startup clear".
-abbrev pub syncOrStartup : Place → Header → Bool
-syncOrStartup p h = isDynamic p && (h .sync || h .startup)
+abbrev pub missesClear : Place → Header → Bool
+missesClear p h = isDynamic p && (h .sync || h .startup)
 
 -- (e) "dynamic: not a null frame". In a null frame the bit is 0.
-abbrev pub nullFrame : Place → Header → Bool
-nullFrame p h = isDynamic p && not (h .«null_frame_bit»)
+abbrev pub missesNotNull : Place → Header → Bool
+missesNotNull p h = isDynamic p && not (h .«null_frame_bit»)
 
 -- "tested in this order, the first miss giving a content reason".
 abbrev pub firstMiss : Place → Header → Reason
 firstMiss p h =
-    cond (otherId p h) OtherId
-    (cond (otherCycle p h) OtherCycle
-    (cond (otherWords p h) OtherWords (cond (syncOrStartup p h) SyncOrStartup (cond (nullFrame p h) NullFrame NoReason))))
+    cond (missesId p h) OtherId
+    (cond (missesCycle p h) OtherCycle
+    (cond (missesWords p h) OtherWords (cond (missesClear p h) SyncOrStartup (cond (missesNotNull p h) NullFrame NoReason))))
 
 -- A reason, and not the absence of one.
 abbrev pub isReason : Reason → Bool
@@ -162,7 +162,7 @@ firstReason old new = cond (isReason old) old new
 abbrev pub firstKept : Kept → Kept → Kept
 firstKept old new = cond (isFrame old) old new
 
--- An arrival has set one of these: an arrival is refused, misses a test, or misses none.
+-- Whether anything arrived: each arrival is refused, misses a test or misses none, and so sets one of these.
 abbrev pub hasArrival : Status → Bool
 hasArrival s = s .«syntax_error» || (s .«content_error» || s .valid)
 

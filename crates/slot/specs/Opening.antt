@@ -28,6 +28,7 @@ pub record Told : Type 0 where
   pub number : ℕ
   pub field : ℕ
 
+-- 01's number and field for each case.
 abbrev pub told : Opening → Told
 told opening.Opened = record { number = 0; field = 0 }
 told (opening.SettingOutOfRange field) = record { number = 17; field = field }

@@ -1,6 +1,6 @@
 // Tests (a) to (e), by which a frame is right or wrong for its slot.
 ghost use mathlib.Core.Path.{_≡_};
-ghost use Rattle.slot.specs.Judging.{placeOf, isStatic, otherWords, syncOrStartup, nullFrame, firstMiss, keptBy};
+ghost use Rattle.slot.specs.Judging.{placeOf, isStatic, missesWords, missesClear, missesNotNull, firstMiss, keptBy};
 use crate::status::Kept;
 use crate::status::Reason;
 use crate::status::Status;
@@ -23,21 +23,21 @@ pub fn first_miss(status: Status, header: Header) -> Reason
     if header.cycle.0 != status.cycle.0 {
         return Reason::OtherCycle;
     }
-    if has_other_words(status, header) {
+    if misses_words(status, header) {
         return Reason::OtherWords;
     }
-    if has_sync_or_startup(status, header) {
+    if misses_clear(status, header) {
         return Reason::SyncOrStartup;
     }
-    if is_null_frame(status, header) {
+    if misses_not_null(status, header) {
         return Reason::NullFrame;
     }
     Reason::NoReason
 }
 
 // Misses (c), which is for static slots.
-fn has_other_words(status: Status, header: Header) -> bool
-    ensures { λ r. ⌜ r ≡ otherWords (placeOf status) header ⌝ }
+fn misses_words(status: Status, header: Header) -> bool
+    ensures { λ r. ⌜ r ≡ missesWords (placeOf status) header ⌝ }
 {
     if !is_static(status) {
         return false;
@@ -46,8 +46,8 @@ fn has_other_words(status: Status, header: Header) -> bool
 }
 
 // Misses (d), which is for dynamic slots.
-fn has_sync_or_startup(status: Status, header: Header) -> bool
-    ensures { λ r. ⌜ r ≡ syncOrStartup (placeOf status) header ⌝ }
+fn misses_clear(status: Status, header: Header) -> bool
+    ensures { λ r. ⌜ r ≡ missesClear (placeOf status) header ⌝ }
 {
     if is_static(status) {
         return false;
@@ -59,8 +59,8 @@ fn has_sync_or_startup(status: Status, header: Header) -> bool
 }
 
 // Misses (e), which is for dynamic slots.
-fn is_null_frame(status: Status, header: Header) -> bool
-    ensures { λ r. ⌜ r ≡ nullFrame (placeOf status) header ⌝ }
+fn misses_not_null(status: Status, header: Header) -> bool
+    ensures { λ r. ⌜ r ≡ missesNotNull (placeOf status) header ⌝ }
 {
     if is_static(status) {
         return false;

@@ -15,12 +15,16 @@ use Rattle.slot.specs.declared.status.Reason.the-variants as reason
 use Rattle.slot.specs.declared.status.Kept.{Kept}
 use Rattle.slot.specs.declared.status.Kept.the-variants as kept
 use Rattle.slot.specs.Judging.{Place, Event, Brought, arrival, boundaryActivity, ownSending, firstMiss, keptBy, isReason, isFrame, isRefused, ofArrival, brings}
-use Rattle.slot.proofs.EventLaws.{brings-frame}
+use Rattle.slot.proofs.EventLaws.{brings-refused, brings-frame}
 use Rattle.slot_claims.specs.Histories.{Arrives, ArrivesRefused, ArrivesMissing, ArrivesPassing}
 use Rattle.slot_claims.proofs.ReasonLaws.{reason-there, kept-frame}
 use Rattle.slot_claims.proofs.Content.{tests-exactly}
 
 -- ---- arrived bytes
+
+-- reading refuses, or it accepts with some header
+abbrev EitherWay : Place → List ℕ → Type 0
+EitherWay p bytes = (isRefused (p .channel) bytes ≡ true) ⊎ ((h : Header) × ReadOnSays (p .channel) bytes (Accepted h))
 
 module _ (p : Place) (bytes : List ℕ) where
   nothing-refused : isRefused (p .channel) bytes ≡ false → first (refusalsOn (p .channel) bytes) ≡ 0
@@ -30,16 +34,12 @@ module _ (p : Place) (bytes : List ℕ) where
   accepts : isRefused (p .channel) bytes ≡ false → ReadOnSays (p .channel) bytes (Accepted (headerRead bytes))
   accepts e = sym (ap (λ (n : ℕ). read.rule n bytes) (nothing-refused e))
 
-  -- one or the other: reading refuses, or it accepts with some header
-  either-way : (isRefused (p .channel) bytes ≡ true) ⊎ ((h : Header) × ReadOnSays (p .channel) bytes (Accepted h))
+  either-way : EitherWay p bytes
   either-way = by (isRefused (p .channel) bytes) refl
     where
-      by : (b : Bool) → isRefused (p .channel) bytes ≡ b → (isRefused (p .channel) bytes ≡ true) ⊎ ((h : Header) × ReadOnSays (p .channel) bytes (Accepted h))
+      by : (b : Bool) → isRefused (p .channel) bytes ≡ b → EitherWay p bytes
       by true e = inl e
       by false e = inr (headerRead bytes, accepts e)
-
-  brings-refused : isRefused (p .channel) bytes ≡ true → brings p (arrival bytes) ≡ ofArrival true reason.NoReason kept.Nothing
-  brings-refused e = rw e
 
 -- ---- each kind of event
 
@@ -52,7 +52,7 @@ only-arrival p bytes = by (either-way p bytes)
         → (brings p (arrival bytes) .arrived ≡ true) × (brings p (arrival bytes) .atBoundary ≡ false) × (brings p (arrival bytes) .sent ≡ false)
     of refused r k e = (ap (λ (b : Brought). b .arrived) e, ap (λ (b : Brought). b .atBoundary) e, ap (λ (b : Brought). b .sent) e)
 
-    by : (isRefused (p .channel) bytes ≡ true) ⊎ ((h : Header) × ReadOnSays (p .channel) bytes (Accepted h))
+    by : EitherWay p bytes
         → (brings p (arrival bytes) .arrived ≡ true) × (brings p (arrival bytes) .atBoundary ≡ false) × (brings p (arrival bytes) .sent ≡ false)
     by (inl out) = of true reason.NoReason kept.Nothing (brings-refused p bytes out)
     by (inr a) = of false (firstMiss p (a .0)) (keptBy (firstMiss p (a .0)) (a .0)) (brings-frame p bytes (a .0) (a .1))
@@ -76,7 +76,7 @@ refused-exactly p e = (there e, back)
     back : ArrivesRefused p e → brings p e .refused ≡ true
     back f = ap (λ (x : Event). brings p x .refused) (f .1) ∙ by (either-way p (f .0))
       where
-        by : (isRefused (p .channel) (f .0) ≡ true) ⊎ ((h : Header) × ReadOnSays (p .channel) (f .0) (Accepted h)) → brings p (arrival (f .0)) .refused ≡ true
+        by : EitherWay p (f .0) → brings p (arrival (f .0)) .refused ≡ true
         by (inl out) = ap (λ (b : Brought). b .refused) (brings-refused p (f .0) out)
         by (inr a) = absurd (f .2 (a .0) (a .1))
 
@@ -91,7 +91,7 @@ misses-exactly p r e is = (there e, back)
     there ownSending t = absurd (none t)
     there (arrival bytes) t = by (either-way p bytes)
       where
-        by : (isRefused (p .channel) bytes ≡ true) ⊎ ((h : Header) × ReadOnSays (p .channel) bytes (Accepted h)) → ArrivesMissing p r (arrival bytes)
+        by : EitherWay p bytes → ArrivesMissing p r (arrival bytes)
         by (inl out) = absurd (none (sym (ap (λ (b : Brought). b .reason) (brings-refused p bytes out)) ∙ t))
         by (inr a) = (
           bytes,
@@ -114,7 +114,7 @@ passes-exactly p h e = (there e, back)
     there ownSending t = absurd (false≢true (ap isFrame t))
     there (arrival bytes) t = by (either-way p bytes)
       where
-        by : (isRefused (p .channel) bytes ≡ true) ⊎ ((h : Header) × ReadOnSays (p .channel) bytes (Accepted h)) → ArrivesPassing p h (arrival bytes)
+        by : EitherWay p bytes → ArrivesPassing p h (arrival bytes)
         by (inl out) = absurd (false≢true (ap isFrame (sym (ap (λ (b : Brought). b .kept) (brings-refused p bytes out)) ∙ t)))
         by (inr a) =
             let k = kept-frame (firstMiss p (a .0)) (a .0) h (sym (ap (λ (b : Brought). b .kept) (brings-frame p bytes (a .0) (a .1))) ∙ t) in (

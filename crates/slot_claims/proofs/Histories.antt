@@ -22,25 +22,25 @@ use Rattle.slot_claims.proofs.Brings.{arrives-exactly, refused-exactly,
 
 -- ---- what the events leave of a status
 
-played : Status → List Event → Status
-played s [] = s
-played s (e ∷ events) = played (after s e) events
+afterAll : Status → List Event → Status
+afterAll s [] = s
+afterAll s (e ∷ events) = afterAll (after s e) events
 
-played-place : (s : Status) (events : List Event) → placeOf (played s events) ≡ placeOf s
-unfolding played
+played-place : (s : Status) (events : List Event) → placeOf (afterAll s events) ≡ placeOf s
+unfolding afterAll
 played-place s [] = refl
 played-place s (e ∷ events) = played-place (after s e) events
 
-played-sound : (s : Status) (events : List Event) → sound s ≡ true → sound (played s events) ≡ true
-unfolding played
+played-sound : (s : Status) (events : List Event) → sound s ≡ true → sound (afterAll s events) ≡ true
+unfolding afterAll
 played-sound s [] good = good
 played-sound s (e ∷ events) good = played-sound (after s e) events (after-sound s e good)
 
 -- A flag stands at the end if some event set it or if it stood before.
 module _ (flag : Status → Bool) (sets : Brought → Bool)
     (once : (s : Status) (e : Event) → flag (after s e) ≡ sets (brings (placeOf s) e) || flag s) where
-  played-flag : (s : Status) (events : List Event) → flag (played s events) ≡ any (λ e. sets (brings (placeOf s) e)) events || flag s
-  unfolding played any
+  played-flag : (s : Status) (events : List Event) → flag (afterAll s events) ≡ any (λ e. sets (brings (placeOf s) e)) events || flag s
+  unfolding afterAll any
   played-flag s [] = refl
   played-flag s (e ∷ events) =
       let rest = any (λ x. sets (brings (placeOf s) x)) events in
@@ -50,8 +50,8 @@ module _ (flag : Status → Bool) (sets : Brought → Bool)
 module _ {A : Type 0} (is : A → Bool) (none : A) (only : (a : A) → is a ≡ false → a ≡ none) (keeps : Status → A) (gives : Brought → A)
     (once : (s : Status) (e : Event) → keeps (after s e) ≡ cond (is (keeps s)) (keeps s) (gives (brings (placeOf s) e))) where
   played-first : (s : Status) (events : List Event)
-      → keeps (played s events) ≡ cond (is (keeps s)) (keeps s) (firstIn is (λ e. gives (brings (placeOf s) e)) none events)
-  unfolding played firstIn
+      → keeps (afterAll s events) ≡ cond (is (keeps s)) (keeps s) (firstIn is (λ e. gives (brings (placeOf s) e)) none events)
+  unfolding afterAll firstIn
   played-first s [] = by (is (keeps s)) refl
     where
       by : (b : Bool) → is (keeps s) ≡ b → keeps s ≡ cond b (keeps s) none
@@ -66,7 +66,7 @@ module _ {A : Type 0} (is : A → Bool) (none : A) (only : (a : A) → is a ≡ 
 
 -- the status at the end
 abbrev end : Place → List Event → Status
-end p events = played (fresh p) events
+end p events = afterAll (fresh p) events
 
 module _ (p : Place) (events : List Event) where
   -- a flag stands exactly when some event set it
@@ -75,7 +75,7 @@ module _ (p : Place) (events : List Event) where
       → (P : Event → Type 0) → ((e : Event) → (sets (brings p e) ≡ true) ↔ P e) → (flag (end p events) ≡ true) ↔ Some P events
   flag-exactly flag sets once clear P same =
       let f : Event → Bool = λ e. sets (brings p e) in
-      let is : flag (played (fresh p) events) ≡ any f events =
+      let is : flag (afterAll (fresh p) events) ≡ any f events =
       played-flag flag sets once (fresh p) events ∙ ap (_||_ (any f events)) clear ∙ or-false (any f events) in
       let words = some-same {P = λ e. f e ≡ true} {Q = P} same events in
       (λ t. words .0 (any-some f events (sym is ∙ t)), λ s. is ∙ some-any f events (words .1 s))
@@ -88,7 +88,7 @@ module _ (p : Place) (events : List Event) where
       → (a : A) → is a ≡ true → (keeps (end p events) ≡ a) ↔ ((e : Event) × First P events e × (gives (brings p e) ≡ a))
   first-exactly {A = A} is none only keeps gives once out clear P same a there =
       let f : Event → A = λ e. gives (brings p e) in
-      let end-is : keeps (played (fresh p) events) ≡ firstIn is f none events =
+      let end-is : keeps (afterAll (fresh p) events) ≡ firstIn is f none events =
       played-first is none only keeps gives once (fresh p) events
       ∙ ap (λ (x : A). cond (is x) x (firstIn is f none events)) clear
       ∙ ap (λ (b : Bool). cond b none (firstIn is f none events)) out in
@@ -248,8 +248,8 @@ module _ (s : Status) (good : sound s ≡ true) where
   none-refused : first (eventRefusals s) ≡ 0
   none-refused = first-skip 23 _ (ap not good) ∙ first-end
 
-calls-played : (s : Status) (events : List Event) (t : Status) → sound s ≡ true → Calls s events t → t ≡ played s events
-unfolding played
+calls-played : (s : Status) (events : List Event) (t : Status) → sound s ≡ true → Calls s events t → t ≡ afterAll s events
+unfolding afterAll
 calls-played s [] t good calls = sym calls
 calls-played s (e ∷ events) t good calls =
     let same : calls .0 .status ≡ after s e = calls .1 .leaves ∙ if-accepted (first (eventRefusals s)) (after s e) s (none-refused s good) in
@@ -270,7 +270,7 @@ histories settings channel slot cycle opened says accepted events s calls =
     let none : first (openingRefusals settings channel slot cycle) ≡ 0 = sym (ap (λ (t : Told). t .number) (says .answers)) ∙ accepted in
     let good : sound (fresh p) ≡ true = fresh-sound settings channel slot cycle none in
     let is-fresh : opened .status ≡ fresh p = says .leaves ∙ if-accepted _ (fresh p) noStatus none in
-    let ends : s ≡ played (fresh p) events = calls-played (fresh p) events s good (subst (λ (x : Status). Calls x events s) is-fresh calls) in (
+    let ends : s ≡ afterAll (fresh p) events = calls-played (fresh p) events s good (subst (λ (x : Status). Calls x events s) is-fresh calls) in (
       calls-recorded (opened .status) events s (ap sound is-fresh ∙ good) calls,
       subst (History p events) (sym ends) (history p good events),
     )

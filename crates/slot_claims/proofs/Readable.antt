@@ -8,38 +8,37 @@ use borrow.Author.Tests.{eqb-true, eqb-false, ne-eqb, le-leb, leb-true, le-ltb, 
 use lib.Dec.{eqb, leb, ltb}
 use lib.ListN.{length}
 use Rattle.refusal.specs.Refusal.{first}
-use Rattle.refusal.proofs.FirstLaws.{first-zero, if-accepted}
+use Rattle.refusal.proofs.FirstLaws.{first-zero}
 use Rattle.division.specs.Bits.{odd, bytesOf, AreBytes}
 use Rattle.division.proofs.BytesLaws.{length-bytes-of, are-bytes-of}
 use Rattle.checksum.specs.declared.Channel.{Channel}
 use Rattle.frame.specs.declared.header.Header.{Header}
-use Rattle.frame.specs.declared.reader.Reading.the-variants.{Accepted}
-use Rattle.frame.specs.Layout.{headerChecksumOf, Frame}
+use Rattle.frame.specs.Layout.{mostWords, headerChecksumOf, Frame}
 use Rattle.frame.specs.Refusals.{tooShort, badSize, headerChecksumDiffers, wordsNotSize, idZero, startupWithoutSync, notAnId, badPayload, cycleTooHigh}
 use Rattle.frame.specs.Read as read
-use Rattle.frame.specs.Read.{headerRead, refusalsOn, ReadOnSays}
+use Rattle.frame.specs.Read.{headerRead, refusalsOn}
 use Rattle.frame.specs.Write.{headerOf, frameBytes}
 use Rattle.frame_claims.specs.Exact.{fieldsOf}
 use Rattle.frame_claims.proofs.Reading.{id-small, words-small, cycle-small, frame-header, frame-accepted}
 use Rattle.frame_claims.proofs.Exact.{written-frame}
-use Rattle.slot.specs.Opening.{Told}
 use Rattle.slot.specs.Sound.{couldBeRead}
+use Rattle.slot.proofs.EventLaws.{accepted-none}
 use Rattle.slot_claims.specs.Sound.{Readable, CouldBeReadExactly}
 use Rattle.slot_claims.proofs.Truth.{both-true}
 
 -- the five clauses
 could-parts : (h : Header) → couldBeRead h ≡ true
-    → (notAnId (h .id .0) ≡ false) × (h .words ≤ 127) × (cycleTooHigh (h .cycle .0) ≡ false)
+    → (notAnId (h .id .0) ≡ false) × (h .words ≤ mostWords) × (cycleTooHigh (h .cycle .0) ≡ false)
     × (startupWithoutSync (h .startup) (h .sync) ≡ false) × (h .checksum ≡ headerChecksumOf h)
 could-parts h e =
     let startup = not (startupWithoutSync (h .startup) (h .sync)) in
     let checksum = eqb (h .checksum) (headerChecksumOf h) in
-    let p1 = both-true (not (notAnId (h .id .0))) (leb (h .words) 127 && (not (cycleTooHigh (h .cycle .0)) && (startup && checksum))) e in
-    let p2 = both-true (leb (h .words) 127) (not (cycleTooHigh (h .cycle .0)) && (startup && checksum)) (p1 .1) in
+    let p1 = both-true (not (notAnId (h .id .0))) (leb (h .words) mostWords && (not (cycleTooHigh (h .cycle .0)) && (startup && checksum))) e in
+    let p2 = both-true (leb (h .words) mostWords) (not (cycleTooHigh (h .cycle .0)) && (startup && checksum)) (p1 .1) in
     let p3 = both-true (not (cycleTooHigh (h .cycle .0))) (startup && checksum) (p2 .1) in
     let p4 = both-true startup checksum (p3 .1) in (
       not-true _ (p1 .0),
-      leb-true (h .words) 127 (p2 .0),
+      leb-true (h .words) mostWords (p2 .0),
       not-true _ (p3 .0),
       not-true _ (p4 .0),
       eqb-true (h .checksum) (headerChecksumOf h) (p4 .1),
@@ -58,7 +57,7 @@ read-could channel bytes none =
     let id-is = eqb-false (h .id .0) 0 (z6 .0) in
     let low : ltb (h .id .0) 1 ≡ false = le-ltb (h .id .0) 1 (omega arith) in
     let high : ltb 2047 (h .id .0) ≡ false = le-ltb 2047 (h .id .0) (id-small bytes) in
-    let words : leb (h .words) 127 ≡ true = le-leb (h .words) 127 (words-small bytes) in
+    let words : leb (h .words) mostWords ≡ true = le-leb (h .words) mostWords (words-small bytes) in
     let cycle : cycleTooHigh (h .cycle .0) ≡ false = le-ltb 63 (h .cycle .0) (cycle-small bytes) in
     let checksum : eqb (h .checksum) (headerChecksumOf h) ≡ true = not-false _ (z4 .0) in
     rw (low, high, words, cycle, z7 .0, checksum)
@@ -83,7 +82,7 @@ module _ (channel : Channel) (h : Header) (could : couldBeRead h ≡ true) where
 
   good-payload : badPayload payload ≡ false
   good-payload =
-      let small : h .words ≤ 127 = could-parts h could .1 in
+      let small : h .words ≤ mostWords = could-parts h could .1 in
       let even : odd (length payload) ≡ false = ne-eqb (length payload % 2) 1 (λ e. omega (arith, payload-length)) in
       let short : ltb 254 (length payload) ≡ false = le-ltb 254 (length payload) (omega (arith, payload-length)) in
       ap₂ _||_ even short
@@ -102,15 +101,6 @@ module _ (channel : Channel) (h : Header) (could : couldBeRead h ≡ true) where
         ap (λ (x : Header). record { number = 0; header = x }) (sym (frame-header channel bytes h payload framed))
             ∙ ap (λ (n : ℕ). read.rule n bytes) (sym (frame-accepted channel bytes h payload framed)),
       )
-
--- what reading with an accepted answer says
-accepted-none : (channel : Channel) (bytes : List ℕ) (h : Header) → ReadOnSays channel bytes (Accepted h)
-    → (first (refusalsOn channel bytes) ≡ 0) × (headerRead bytes ≡ h)
-accepted-none channel bytes h says =
-    let none : first (refusalsOn channel bytes) ≡ 0 = sym (ap (λ (t : read.Told). t .number) says) in (
-      none,
-      sym (ap (λ (t : read.Told). t .header) says ∙ if-accepted (first (refusalsOn channel bytes)) (headerRead bytes) read.noHeader none),
-    )
 
 pub could-be-read-exactly : CouldBeReadExactly
 could-be-read-exactly channel h = (

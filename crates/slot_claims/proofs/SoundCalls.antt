@@ -9,7 +9,6 @@ use Rattle.checksum.specs.Channel.{notAChannel, channelOf, numberOf}
 use Rattle.frame.specs.declared.header.Slot.{Slot}
 use Rattle.frame.specs.declared.header.Cycle.{Cycle}
 use Rattle.frame.specs.declared.header.Header.{Header}
-use Rattle.frame.specs.Layout.{Frame}
 use Rattle.frame.specs.Refusals.{notAnId, cycleTooHigh}
 use Rattle.frame.specs.Read.{headerRead, refusalsOn}
 use Rattle.settings.specs.declared.Settings.{Settings}

@@ -1,4 +1,5 @@
--- Claims about tests (a) to (e), in words: which reason is given for which frame.
+-- Claims about tests (a) to (e), in words: which reason is given for which frame. 01: "tested in this order, the first miss giving a
+-- content reason".
 use Prim.Native.Nat.{_<_, _≤_}
 use mathlib.Core.Path.{_≡_}
 use mathlib.Core.Bool.{true, false}

@@ -1,5 +1,6 @@
--- Claims about whole sequences of events, from the opening of a slot on. The rule of a history names no status: it works from the events
--- alone, with what the slot was opened with.
+-- Claims about whole sequences of events, from the opening of a slot on. The customer's second condition asks that slot status is that of
+-- 01's rules, and 01 speaks of what has occurred in a slot. So the rule of a history names no status: it works from the events alone,
+-- with what the slot was opened with.
 use Prim.Native.Nat.{ℕ}
 use mathlib.Core.Path.{_≡_}
 use mathlib.Core.Bool.{true}
@@ -82,7 +83,7 @@ pub record History (p : Place) (events : List Event) (s : Status) : Type 0 where
   pub kept : (h : Header) → (s .kept ≡ Frame h) ↔ ((e : Event) × First (PassesAll p) events e × ArrivesPassing p h e)
   -- Boundary violation exactly when there was boundary activity.
   pub boundary : (s .«boundary_violation» ≡ true) ↔ Occurs boundaryActivity events
-  -- Conflict exactly when own sending and an arrival both occurred, in whatever order.
+  -- Own sending exactly when it occurred, and conflict exactly when own sending and an arrival both did, in whatever order.
   pub sending : (s .«own_sending» ≡ true) ↔ Occurs ownSending events
   pub conflict : (s .conflict ≡ true) ↔ Occurs ownSending events × Some Arrives events
 

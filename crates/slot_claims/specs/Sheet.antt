@@ -24,6 +24,7 @@ pub record TypedAgain : Type 0 where
 abbrev pub rangeOf : ℕ → Range
 rangeOf number = getD ranges (number - 1) (0 to 0)
 
+-- A number of a field.
 abbrev pub IsField : ℕ → Type 0
 IsField number = (1 ≤ number) × (number ≤ fieldCount)
 
@@ -41,5 +42,6 @@ pub record FieldTold (s : Settings) (told : ℕ) : Type 0 where
   pub none : (told ≡ 0) ↔ AllInRange s
   pub first : (number : ℕ) → IsField number → (told ≡ number) ↔ FirstOut s number
 
+-- What the rule tells of any sheet.
 abbrev pub Sheets : Type 0
 Sheets = (s : Settings) → TypedSettings s → FieldTold s (firstOutOfRange s)

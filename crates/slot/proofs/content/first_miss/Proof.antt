@@ -2,61 +2,61 @@
 use mathlib.Core.Path.{_≡_, sym, ap, _∙_}
 use mathlib.Core.Bool.{true, false, not}
 use borrow.Author.Tests.{eq-eqb, ne-eqb}
-use Rattle.slot.specs.Judging.{placeOf, otherId, otherCycle, otherWords, syncOrStartup}
+use Rattle.slot.specs.Judging.{placeOf, missesId, missesCycle, missesWords, missesClear}
 use borrow.Author.Needs.{needs}
 use Rattle.slot.proofs.content.first_miss.Statement.{statement}
 use Rattle.slot.proofs.content.first_miss.Tie as tie
 use Rattle.slot.proofs.content.first_miss.Reads as reads
 use Rattle.slot.proofs.content.first_miss.Lts as lts
-use Rattle.slot.proofs.content.has_other_words.Reads as has-other-words-reads
-use Rattle.slot.proofs.content.has_sync_or_startup.Reads as has-sync-or-startup-reads
-use Rattle.slot.proofs.content.is_null_frame.Reads as is-null-frame-reads
+use Rattle.slot.proofs.content.misses_words.Reads as misses-words-reads
+use Rattle.slot.proofs.content.misses_clear.Reads as misses-clear-reads
+use Rattle.slot.proofs.content.misses_not_null.Reads as misses-not-null-reads
 
 -- ---- the tests that were passed
 
-same-id : (c : tie.Else1) → otherId (placeOf (c .before .before .before .args .status)) (c .before .before .before .args .header) ≡ false
+same-id : (c : tie.Else1) → missesId (placeOf (c .before .before .before .args .status)) (c .before .before .before .args .header) ≡ false
 same-id c = ap not (eq-eqb (c .before .before .before .args .header .id .0) (c .before .before .before .args .status .slot .0) (c .if1 .left))
 
 same-cycle : (c : tie.Else2)
-    → otherCycle (placeOf (c .before .before .before .before .before .before .args .status)) (c .before .before .before .before .before .before .args .header) ≡ false
+    → missesCycle (placeOf (c .before .before .before .before .before .before .args .status)) (c .before .before .before .before .before .before .args .header) ≡ false
 same-cycle c =
     let a = c .before .before .before .before .before .before .args in
     ap not (eq-eqb (a .header .cycle .0) (a .status .cycle .0) (c .if2 .left))
 
 same-words : (c : tie.Else3)
-    → otherWords (placeOf (c .before .before .before .before .before .before .before .before .args .status))
+    → missesWords (placeOf (c .before .before .before .before .before .before .before .before .args .status))
     (c .before .before .before .before .before .before .before .before .args .header)
     ≡ false
-same-words c = sym (c .before .«has-other-words» .ensures) ∙ c .if3 .left
+same-words c = sym (c .before .«misses-words» .ensures) ∙ c .if3 .left
 
 both-clear : (c : tie.Else4)
-    → syncOrStartup (placeOf (c .before .before .before .before .before .before .before .before .before .before .args .status))
+    → missesClear (placeOf (c .before .before .before .before .before .before .before .before .before .before .args .status))
     (c .before .before .before .before .before .before .before .before .before .before .args .header)
     ≡ false
-both-clear c = sym (c .before .«has-sync-or-startup» .ensures) ∙ c .if4 .left
+both-clear c = sym (c .before .«misses-clear» .ensures) ∙ c .if4 .left
 
 -- ---- each return
 
 returns : tie.Need-returns
 returns c =
     let a = c .before .before .before .args in
-    let other : otherId (placeOf (a .status)) (a .header) ≡ true = ap not (ne-eqb (a .header .id .0) (a .status .slot .0) (c .if1 .taken)) in
+    let other : missesId (placeOf (a .status)) (a .header) ≡ true = ap not (ne-eqb (a .header .id .0) (a .status .slot .0) (c .if1 .taken)) in
     rw other
 
 returns-2 : tie.Need-returns-2
 returns-2 c =
     let a = c .before .before .before .before .before .before .args in
-    let other : otherCycle (placeOf (a .status)) (a .header) ≡ true = ap not (ne-eqb (a .header .cycle .0) (a .status .cycle .0) (c .if2 .taken)) in
+    let other : missesCycle (placeOf (a .status)) (a .header) ≡ true = ap not (ne-eqb (a .header .cycle .0) (a .status .cycle .0) (c .if2 .taken)) in
     rw (same-id (c .before .before .before), other)
 
-has-other-words-requires : tie.Need-has-other-words-requires
-has-other-words-requires c κs = search needs
+misses-words-requires : tie.Need-misses-words-requires
+misses-words-requires c κs = search needs
 
 returns-3 : tie.Need-returns-3
-returns-3 c = rw (same-id (c .before .before .before .before .before), same-cycle (c .before .before), sym (c .before .«has-other-words» .ensures) ∙ c .if3 .taken)
+returns-3 c = rw (same-id (c .before .before .before .before .before), same-cycle (c .before .before), sym (c .before .«misses-words» .ensures) ∙ c .if3 .taken)
 
-has-sync-or-startup-requires : tie.Need-has-sync-or-startup-requires
-has-sync-or-startup-requires c κs = search needs
+misses-clear-requires : tie.Need-misses-clear-requires
+misses-clear-requires c κs = search needs
 
 returns-4 : tie.Need-returns-4
 returns-4 c =
@@ -64,11 +64,11 @@ returns-4 c =
       same-id (c .before .before .before .before .before .before .before),
       same-cycle (c .before .before .before .before),
       same-words (c .before .before),
-      sym (c .before .«has-sync-or-startup» .ensures) ∙ c .if4 .taken,
+      sym (c .before .«misses-clear» .ensures) ∙ c .if4 .taken,
     )
 
-is-null-frame-requires : tie.Need-is-null-frame-requires
-is-null-frame-requires c κs = search needs
+misses-not-null-requires : tie.Need-misses-not-null-requires
+misses-not-null-requires c κs = search needs
 
 returns-5 : tie.Need-returns-5
 returns-5 c =
@@ -77,7 +77,7 @@ returns-5 c =
       same-cycle (c .before .before .before .before .before .before),
       same-words (c .before .before .before .before),
       both-clear (c .before .before),
-      sym (c .before .«is-null-frame» .ensures) ∙ c .if5 .taken,
+      sym (c .before .«misses-not-null» .ensures) ∙ c .if5 .taken,
     )
 
 returns-6 : tie.Need-returns-6
@@ -87,7 +87,7 @@ returns-6 c =
       same-cycle (c .before .before .before .before .before .before),
       same-words (c .before .before .before .before),
       both-clear (c .before .before),
-      sym (c .before .«is-null-frame» .ensures) ∙ c .if5 .left,
+      sym (c .before .«misses-not-null» .ensures) ∙ c .if5 .left,
     )
 
 pub first-miss-spec : {M : Type 1} → statement M
@@ -96,10 +96,10 @@ first-miss-spec =
     (tie.spec
     returns
     returns-2
-    has-other-words-requires
+    misses-words-requires
     returns-3
-    has-sync-or-startup-requires
+    misses-clear-requires
     returns-4
-    is-null-frame-requires
+    misses-not-null-requires
     returns-5
     returns-6)

@@ -20,7 +20,7 @@ use Rattle.frame.proofs.startup_without_sync.Reads as startup-without-sync-read
 an-id : (c : tie.Else1) → notAnId (c .before .before .args .header .id .0) ≡ false
 an-id c = sym (c .before .«is-not-an-id» .ensures) ∙ c .if1 .left
 
-words : (c : tie.Else2) → leb (c .before .before .before .before .args .header .words) 127 ≡ true
+words : (c : tie.Else2) → leb (c .before .before .before .before .args .header .words) mostWords ≡ true
 words c = le-leb _ _ (c .if2 .left)
 
 cycle : (c : tie.Else3) → cycleTooHigh (c .before .before .before .before .before .before .args .header .cycle .0) ≡ false

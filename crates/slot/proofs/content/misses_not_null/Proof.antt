@@ -3,10 +3,10 @@ use mathlib.Core.Path.{_≡_, sym, ap, _∙_}
 use mathlib.Core.Bool.{Bool, true, false, not, _&&_}
 use Rattle.slot.specs.Judging.{placeOf, isStatic}
 use borrow.Author.Needs.{needs}
-use Rattle.slot.proofs.content.is_null_frame.Statement.{statement}
-use Rattle.slot.proofs.content.is_null_frame.Tie as tie
-use Rattle.slot.proofs.content.is_null_frame.Reads as reads
-use Rattle.slot.proofs.content.is_null_frame.Lts as lts
+use Rattle.slot.proofs.content.misses_not_null.Statement.{statement}
+use Rattle.slot.proofs.content.misses_not_null.Tie as tie
+use Rattle.slot.proofs.content.misses_not_null.Reads as reads
+use Rattle.slot.proofs.content.misses_not_null.Lts as lts
 use Rattle.slot.proofs.content.is_static.Reads as is-static-reads
 
 is-static-requires : tie.Need-is-static-requires
@@ -23,5 +23,5 @@ returns-2 c =
     let dynamic : isStatic (placeOf (a .status)) ≡ false = sym (c .before .«is-static» .ensures) ∙ c .if1 .left in
     sym (ap (λ (b : Bool). not b && not (a .header .«null_frame_bit»)) dynamic)
 
-pub is-null-frame-spec : {M : Type 1} → statement M
-is-null-frame-spec = tie.close (tie.spec is-static-requires returns returns-2)
+pub misses-not-null-spec : {M : Type 1} → statement M
+misses-not-null-spec = tie.close (tie.spec is-static-requires returns returns-2)

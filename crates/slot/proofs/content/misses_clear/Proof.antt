@@ -3,10 +3,10 @@ use mathlib.Core.Path.{_≡_, sym, _∙_}
 use mathlib.Core.Bool.{true, false}
 use Rattle.slot.specs.Judging.{placeOf, isStatic}
 use borrow.Author.Needs.{needs}
-use Rattle.slot.proofs.content.has_sync_or_startup.Statement.{statement}
-use Rattle.slot.proofs.content.has_sync_or_startup.Tie as tie
-use Rattle.slot.proofs.content.has_sync_or_startup.Reads as reads
-use Rattle.slot.proofs.content.has_sync_or_startup.Lts as lts
+use Rattle.slot.proofs.content.misses_clear.Statement.{statement}
+use Rattle.slot.proofs.content.misses_clear.Tie as tie
+use Rattle.slot.proofs.content.misses_clear.Reads as reads
+use Rattle.slot.proofs.content.misses_clear.Lts as lts
 use Rattle.slot.proofs.content.is_static.Reads as is-static-reads
 
 is-static-requires : tie.Need-is-static-requires
@@ -27,5 +27,5 @@ returns-3 c =
     let dynamic : isStatic (placeOf (c .before .before .before .args .status)) ≡ false = sym (c .before .before .«is-static» .ensures) ∙ c .before .if1 .left in
     rw (dynamic, c .if2 .left)
 
-pub has-sync-or-startup-spec : {M : Type 1} → statement M
-has-sync-or-startup-spec = tie.close (tie.spec is-static-requires returns returns-2 returns-3)
+pub misses-clear-spec : {M : Type 1} → statement M
+misses-clear-spec = tie.close (tie.spec is-static-requires returns returns-2 returns-3)
