@@ -53,21 +53,33 @@ cycle-small bytes = let small = field-small 34 6 (bytesBits bytes) in omega arit
 payload-are-bytes : (bytes : List ℕ) → AreBytes bytes → AreBytes (payloadRead bytes)
 payload-are-bytes bytes are = are-bytes-drop 5 (take (length bytes - 3) bytes) (are-bytes-take (length bytes - 3) bytes are)
 
--- ---- nothing is refused, so it is a frame
+-- ---- nothing is refused: none of the seven conditions holds
+
+pub none-of-seven-read : (channel : Channel) (bytes : List ℕ) → first (refusalsOn channel bytes) ≡ 0
+    → (tooShort bytes ≡ false) × (badSize bytes ≡ false) × (headerChecksumDiffers (headerRead bytes) ≡ false)
+    × (wordsNotSize (headerRead bytes) bytes ≡ false) × (idZero (headerRead bytes) ≡ false)
+    × (startupWithoutSync (headerRead bytes .startup) (headerRead bytes .sync) ≡ false)
+    × (frameChecksumDiffers channel bytes (trailerRead bytes) ≡ false)
+none-of-seven-read channel bytes none =
+    let h = headerRead bytes in
+    let z2 = first-zero 1 (tooShort bytes) _ none in
+    let z3 = first-zero 2 (badSize bytes) _ (z2 .1) in
+    let z4 = first-zero 3 (headerChecksumDiffers h) _ (z3 .1) in
+    let z5 = first-zero 4 (wordsNotSize h bytes) _ (z4 .1) in
+    let z6 = first-zero 5 (idZero h) _ (z5 .1) in
+    let z7 = first-zero 6 (startupWithoutSync (h .startup) (h .sync)) _ (z6 .1) in
+    let z8 = first-zero 7 (frameChecksumDiffers channel bytes (trailerRead bytes)) _ (z7 .1) in
+    (z2 .0, z3 .0, z4 .0, z5 .0, z6 .0, z7 .0, z8 .0)
+
+-- ---- so it is a frame
 
 module _ (channel : Channel) (bytes : List ℕ) (are : AreBytes bytes) (none : first (refusalsOn channel bytes) ≡ 0) where
   pub accepted-frame : Frame channel bytes (headerRead bytes) (payloadRead bytes)
   accepted-frame =
       let h = headerRead bytes in
-      let z2 = first-zero 1 (tooShort bytes) _ none in
-      let z3 = first-zero 2 (badSize bytes) _ (z2 .1) in
-      let z4 = first-zero 3 (headerChecksumDiffers h) _ (z3 .1) in
-      let z5 = first-zero 4 (wordsNotSize h bytes) _ (z4 .1) in
-      let z6 = first-zero 5 (idZero h) _ (z5 .1) in
-      let z7 = first-zero 6 (startupWithoutSync (h .startup) (h .sync)) _ (z6 .1) in
-      let z8 = first-zero 7 (frameChecksumDiffers channel bytes (trailerRead bytes)) _ (z7 .1) in
-      let long : 8 ≤ length bytes = ltb-false (length bytes) 8 (z2 .0) in
-      let size : 8 + 2 * h .words ≡ length bytes = eqb-true _ _ (not-false _ (z5 .0)) in
+      let z = none-of-seven-read channel bytes none in
+      let long : 8 ≤ length bytes = ltb-false (length bytes) 8 (z .0) in
+      let size : 8 + 2 * h .words ≡ length bytes = eqb-true _ _ (not-false _ (z .3)) in
       let five = bytesBits (take 5 bytes) in
       let middle = bytesBits (payloadRead bytes) in
       let last = bytesBits (drop (length bytes - 3) bytes) in
@@ -77,18 +89,18 @@ module _ (channel : Channel) (bytes : List ℕ) (are : AreBytes bytes) (none : f
       two-parts bytes long ∙ ap (λ (x : List Bool). x ++ middle) header in
       let trailer : last ≡ bits 24 (frameChecksumOf channel h (payloadRead bytes)) =
       sym (bits-number 24 last (length-trailer bytes long))
-      ∙ ap (bits 24) (eqb-true _ _ (not-false _ (z8 .0)) ∙ ap (frameDivision channel) covered) in
-      let id : 1 ≤ h .id .0 = positive (h .id .0) (eqb-false _ _ (z6 .0)) in
+      ∙ ap (bits 24) (eqb-true _ _ (not-false _ (z .6)) ∙ ap (frameDivision channel) covered) in
+      let id : 1 ≤ h .id .0 = positive (h .id .0) (eqb-false _ _ (z .4)) in
       record {
         areBytes = are;
         payloadAreBytes = payload-are-bytes bytes are;
         layout = three-parts bytes long ∙ ap₂ (λ (x y : List Bool). x ++ (middle ++ y)) header trailer;
-        checksum = eqb-true _ _ (not-false _ (z4 .0));
+        checksum = eqb-true _ _ (not-false _ (z .2));
         id = (id, id-small bytes);
         words = words-small bytes;
         payloadLength = length-payload bytes long ∙ omega arith;
         cycle = cycle-small bytes;
-        startup = only-with (h .startup) (h .sync) (z7 .0);
+        startup = only-with (h .startup) (h .sync) (z .5);
       }
     where
       positive : (n : ℕ) → (n ≡ 0 → ⊥) → 1 ≤ n

@@ -1,6 +1,6 @@
--- The claims about sequences of events: one law for a flag, and one for what is kept first.
+-- The claims about sequences of events.
 use mathlib.Core.Path.{_≡_, refl, sym, ap, _∙_, subst}
-use mathlib.Core.Bool.{Bool, true, false, not, _||_, cond, or-false}
+use mathlib.Core.Bool.{Bool, true, false, not}
 use mathlib.Core.List.{List, [], _∷_, Memᴰ·cast}
 use mathlib.Core.Logic.{_↔_}
 use Rattle.refusal.specs.Refusal.{first}
@@ -8,98 +8,19 @@ use Rattle.refusal.proofs.FirstLaws.{first-skip, first-end, if-accepted}
 use Rattle.slot.specs.declared.status.Reason.the-variants as reason
 use Rattle.slot.specs.declared.status.Kept.the-variants as kept
 use Rattle.slot.specs.declared.status.Status.{Status}
-use Rattle.slot.specs.Judging.{Place, Event, Brought, boundaryActivity, ownSending, placeOf, placeBy, fresh, noStatus, isReason, isFrame, hasArrival, brings, after}
+use Rattle.slot.specs.Judging.{Place, Event, boundaryActivity, ownSending, placeOf, placeBy, fresh, noStatus, isReason, isFrame, hasArrival, brings, after}
 use Rattle.slot.specs.Opening.{openingRefusals, Told}
 use Rattle.slot.specs.Sound.{sound}
 use Rattle.slot.specs.Events.{eventRefusals}
-use Rattle.slot_claims.specs.Histories.{Arrives, ArrivesRefused, Misses, PassesAll, Occurs, Some, First, History, HistoryOne, Calls, NoneRefused, Histories}
-use Rattle.slot_claims.proofs.Truth.{both-true, true-both, same-true, or-between, first-of-three}
+use Rattle.slot_claims.specs.Histories.{Arrives, ArrivesRefused, Misses, PassesAll, Occurs, Some, History, HistoryOne, Calls, NoneRefused, Histories}
+use Rattle.slot_claims.proofs.Truth.{both-true, true-both, same-true}
 use Rattle.slot_claims.proofs.ReasonLaws.{reason-there, there-reason, no-reason, frame-there, no-frame}
 use Rattle.slot_claims.proofs.Sound.{Clauses, clauses}
 use Rattle.slot_claims.proofs.SoundCalls.{fits, has-after, after-sound, fresh-sound}
-use Rattle.slot_claims.proofs.EventsLaws.{some-same, first-same, any, any-some, some-any, firstIn, found-first, first-found}
 use Rattle.slot_claims.proofs.Brings.{arrives-exactly, refused-exactly, misses-exactly, passes-exactly, boundary-exactly, sending-exactly}
+use Rattle.slot_claims.proofs.AfterAll.{afterAll, all-place, all-sound, end, flag-exactly, first-exactly}
 
--- ---- what the events leave of a status
-
-afterAll : Status → List Event → Status
-afterAll s [] = s
-afterAll s (e ∷ events) = afterAll (after s e) events
-
-played-place : (s : Status) (events : List Event) → placeOf (afterAll s events) ≡ placeOf s
-unfolding afterAll
-played-place s [] = refl
-played-place s (e ∷ events) = played-place (after s e) events
-
-played-sound : (s : Status) (events : List Event) → sound s ≡ true → sound (afterAll s events) ≡ true
-unfolding afterAll
-played-sound s [] good = good
-played-sound s (e ∷ events) good = played-sound (after s e) events (after-sound s e good)
-
--- A flag stands at the end if some event set it or if it stood before.
-module _ (flag : Status → Bool) (sets : Brought → Bool)
-    (once : (s : Status) (e : Event) → flag (after s e) ≡ sets (brings (placeOf s) e) || flag s) where
-  played-flag : (s : Status) (events : List Event) → flag (afterAll s events) ≡ any (λ e. sets (brings (placeOf s) e)) events || flag s
-  unfolding afterAll any
-  played-flag s [] = refl
-  played-flag s (e ∷ events) =
-      let rest = any (λ x. sets (brings (placeOf s) x)) events in
-      played-flag (after s e) events ∙ ap (_||_ rest) (once s e) ∙ or-between rest (sets (brings (placeOf s) e)) (flag s)
-
--- What is kept at the end is what was kept before, or the first that an event brought.
-module _ {A : Type 0} (is : A → Bool) (none : A) (only : (a : A) → is a ≡ false → a ≡ none) (keeps : Status → A) (gives : Brought → A)
-    (once : (s : Status) (e : Event) → keeps (after s e) ≡ cond (is (keeps s)) (keeps s) (gives (brings (placeOf s) e))) where
-  played-first : (s : Status) (events : List Event)
-      → keeps (afterAll s events) ≡ cond (is (keeps s)) (keeps s) (firstIn is (λ e. gives (brings (placeOf s) e)) none events)
-  unfolding afterAll firstIn
-  played-first s [] = by (is (keeps s)) refl
-    where
-      by : (b : Bool) → is (keeps s) ≡ b → keeps s ≡ cond b (keeps s) none
-      by true e = refl
-      by false e = only (keeps s) e
-  played-first s (e ∷ events) =
-      let rest = firstIn is (λ x. gives (brings (placeOf s) x)) none events in
-      played-first (after s e) events ∙ ap (λ (a : A). cond (is a) a rest) (once s e)
-      ∙ first-of-three is (keeps s) (gives (brings (placeOf s) e)) rest
-
--- ---- from a fresh status
-
--- the status at the end
-abbrev end : Place → List Event → Status
-end p events = afterAll (fresh p) events
-
-module _ (p : Place) (events : List Event) where
-  -- a flag stands exactly when some event set it
-  flag-exactly : (flag : Status → Bool) (sets : Brought → Bool)
-      → ((s : Status) (e : Event) → flag (after s e) ≡ sets (brings (placeOf s) e) || flag s) → flag (fresh p) ≡ false
-      → (P : Event → Type 0) → ((e : Event) → (sets (brings p e) ≡ true) ↔ P e) → (flag (end p events) ≡ true) ↔ Some P events
-  flag-exactly flag sets once clear P same =
-      let f : Event → Bool = λ e. sets (brings p e) in
-      let is : flag (afterAll (fresh p) events) ≡ any f events =
-      played-flag flag sets once (fresh p) events ∙ ap (_||_ (any f events)) clear ∙ or-false (any f events) in
-      let words = some-same {P = λ e. f e ≡ true} {Q = P} same events in
-      (λ t. words .0 (any-some f events (sym is ∙ t)), λ s. is ∙ some-any f events (words .1 s))
-
-  -- what is kept is what the first event brought
-  first-exactly : {A : Type 0} (is : A → Bool) (none : A) (only : (a : A) → is a ≡ false → a ≡ none) (keeps : Status → A) (gives : Brought → A)
-      → ((s : Status) (e : Event) → keeps (after s e) ≡ cond (is (keeps s)) (keeps s) (gives (brings (placeOf s) e)))
-      → is none ≡ false → keeps (fresh p) ≡ none
-      → (P : Event → Type 0) → ((e : Event) → (is (gives (brings p e)) ≡ true) ↔ P e)
-      → (a : A) → is a ≡ true → (keeps (end p events) ≡ a) ↔ ((e : Event) × First P events e × (gives (brings p e) ≡ a))
-  first-exactly {A = A} is none only keeps gives once out clear P same a there =
-      let f : Event → A = λ e. gives (brings p e) in
-      let end-is : keeps (afterAll (fresh p) events) ≡ firstIn is f none events =
-      played-first is none only keeps gives once (fresh p) events
-      ∙ ap (λ (x : A). cond (is x) x (firstIn is f none events)) clear
-      ∙ ap (λ (b : Bool). cond b none (firstIn is f none events)) out in
-      let back : (e : Event) → P e ↔ (is (f e) ≡ true) = λ e. (same e .1, same e .0) in (
-        λ t.
-            let r = found-first is f none out events a there (sym end-is ∙ t) in
-            (r .0, first-same {P = λ e. is (f e) ≡ true} {Q = P} same events (r .0) (r .1), r .2),
-        λ r.
-            let q = first-same {P = P} {Q = λ e. is (f e) ≡ true} back events (r .0) (r .1) in
-            end-is ∙ ap (firstIn is f none) (q .parts) ∙ first-found is f none (q .before) (q .after) (r .0) (q .holds) (q .earlier) ∙ r .2,
-      )
+-- ---- what is exactly so
 
 -- this very event is among them
 some-is : (x : Event) (events : List Event) → Some (λ e. x ≡ e) events ↔ Occurs x events
@@ -126,7 +47,7 @@ module _ (p : Place) (good : sound (fresh p) ≡ true) (events : List Event) whe
   whole = end p events
 
   whole-sound : sound whole ≡ true
-  whole-sound = played-sound (fresh p) events good
+  whole-sound = all-sound (fresh p) events good
 
   content-exactly : (whole .«content_error» ≡ true) ↔ Some (Misses p) events
   content-exactly =
@@ -145,7 +66,7 @@ module _ (p : Place) (good : sound (fresh p) ≡ true) (events : List Event) whe
   history : History p events whole
   history =
       record {
-        place = played-place (fresh p) events;
+        place = all-place (fresh p) events;
         syntax = flag-exactly p events (λ s. s .«syntax_error») (λ b. b .refused) (λ s e. refl) refl (ArrivesRefused p) (refused-exactly p);
         content = content-exactly;
         reason =
@@ -248,12 +169,12 @@ module _ (s : Status) (good : sound s ≡ true) where
   none-refused : first (eventRefusals s) ≡ 0
   none-refused = first-skip 23 _ (ap not good) ∙ first-end
 
-calls-played : (s : Status) (events : List Event) (t : Status) → sound s ≡ true → Calls s events t → t ≡ afterAll s events
+calls-after : (s : Status) (events : List Event) (t : Status) → sound s ≡ true → Calls s events t → t ≡ afterAll s events
 unfolding afterAll
-calls-played s [] t good calls = sym calls
-calls-played s (e ∷ events) t good calls =
+calls-after s [] t good calls = sym calls
+calls-after s (e ∷ events) t good calls =
     let same : calls .0 .status ≡ after s e = calls .1 .leaves ∙ if-accepted (first (eventRefusals s)) (after s e) s (none-refused s good) in
-    calls-played (after s e) events t (after-sound s e good) (subst (λ (x : Status). Calls x events t) same (calls .2))
+    calls-after (after s e) events t (after-sound s e good) (subst (λ (x : Status). Calls x events t) same (calls .2))
 
 calls-recorded : (s : Status) (events : List Event) (t : Status) → sound s ≡ true → (calls : Calls s events t) → NoneRefused s events t calls
 calls-recorded s [] t good calls = tt
@@ -270,7 +191,7 @@ histories settings channel slot cycle opened says accepted events s calls =
     let none : first (openingRefusals settings channel slot cycle) ≡ 0 = sym (ap (λ (t : Told). t .number) (says .answers)) ∙ accepted in
     let good : sound (fresh p) ≡ true = fresh-sound settings channel slot cycle none in
     let is-fresh : opened .status ≡ fresh p = says .leaves ∙ if-accepted _ (fresh p) noStatus none in
-    let ends : s ≡ afterAll (fresh p) events = calls-played (fresh p) events s good (subst (λ (x : Status). Calls x events s) is-fresh calls) in (
+    let ends : s ≡ afterAll (fresh p) events = calls-after (fresh p) events s good (subst (λ (x : Status). Calls x events s) is-fresh calls) in (
       calls-recorded (opened .status) events s (ap sound is-fresh ∙ good) calls,
       subst (History p events) (sym ends) (history p good events),
     )

@@ -6,7 +6,8 @@ pub mod Content
 pub mod Readable
 pub mod Sound
 pub mod SoundCalls
-pub mod EventsLaws
+pub mod SequenceLaws
 pub mod Brings
+pub mod AfterAll
 pub mod Histories
 pub mod Witnesses

@@ -8,18 +8,17 @@ use borrow.Author.Tests.{eqb-true, eqb-false, ne-eqb, le-leb, leb-true, le-ltb, 
 use lib.Dec.{eqb, leb, ltb}
 use lib.ListN.{length}
 use Rattle.refusal.specs.Refusal.{first}
-use Rattle.refusal.proofs.FirstLaws.{first-zero}
 use Rattle.division.specs.Bits.{odd, bytesOf, AreBytes}
 use Rattle.division.proofs.BytesLaws.{length-bytes-of, are-bytes-of}
 use Rattle.checksum.specs.declared.Channel.{Channel}
 use Rattle.frame.specs.declared.header.Header.{Header}
 use Rattle.frame.specs.Layout.{mostWords, headerChecksumOf, Frame}
-use Rattle.frame.specs.Refusals.{tooShort, badSize, headerChecksumDiffers, wordsNotSize, idZero, startupWithoutSync, notAnId, badPayload, cycleTooHigh}
+use Rattle.frame.specs.Refusals.{startupWithoutSync, notAnId, badPayload, cycleTooHigh}
 use Rattle.frame.specs.Read as read
 use Rattle.frame.specs.Read.{headerRead, refusalsOn}
 use Rattle.frame.specs.Write.{headerOf, frameBytes}
 use Rattle.frame_claims.specs.Exact.{fieldsOf}
-use Rattle.frame_claims.proofs.Reading.{id-small, words-small, cycle-small, frame-header, frame-accepted}
+use Rattle.frame_claims.proofs.Reading.{none-of-seven-read, id-small, words-small, cycle-small, frame-header, frame-accepted}
 use Rattle.frame_claims.proofs.Exact.{written-frame}
 use Rattle.slot.specs.Sound.{couldBeRead}
 use Rattle.slot.proofs.EventLaws.{accepted-none}
@@ -48,19 +47,14 @@ could-parts h e =
 pub read-could : (channel : Channel) (bytes : List ℕ) → first (refusalsOn channel bytes) ≡ 0 → couldBeRead (headerRead bytes) ≡ true
 read-could channel bytes none =
     let h = headerRead bytes in
-    let z2 = first-zero 1 (tooShort bytes) _ none in
-    let z3 = first-zero 2 (badSize bytes) _ (z2 .1) in
-    let z4 = first-zero 3 (headerChecksumDiffers h) _ (z3 .1) in
-    let z5 = first-zero 4 (wordsNotSize h bytes) _ (z4 .1) in
-    let z6 = first-zero 5 (idZero h) _ (z5 .1) in
-    let z7 = first-zero 6 (startupWithoutSync (h .startup) (h .sync)) _ (z6 .1) in
-    let id-is = eqb-false (h .id .0) 0 (z6 .0) in
+    let z = none-of-seven-read channel bytes none in
+    let id-is = eqb-false (h .id .0) 0 (z .4) in
     let low : ltb (h .id .0) 1 ≡ false = le-ltb (h .id .0) 1 (omega arith) in
     let high : ltb 2047 (h .id .0) ≡ false = le-ltb 2047 (h .id .0) (id-small bytes) in
     let words : leb (h .words) mostWords ≡ true = le-leb (h .words) mostWords (words-small bytes) in
     let cycle : cycleTooHigh (h .cycle .0) ≡ false = le-ltb 63 (h .cycle .0) (cycle-small bytes) in
-    let checksum : eqb (h .checksum) (headerChecksumOf h) ≡ true = not-false _ (z4 .0) in
-    rw (low, high, words, cycle, z7 .0, checksum)
+    let checksum : eqb (h .checksum) (headerChecksumOf h) ≡ true = not-false _ (z .2) in
+    rw (low, high, words, cycle, z .5, checksum)
 
 -- a frame with a header that a read could give, of as many zero bytes as it has words for
 module _ (channel : Channel) (h : Header) (could : couldBeRead h ≡ true) where

@@ -52,7 +52,7 @@ pub record Fits (p : Place) (b : Brought) : Type 0 where
   pub keeps : keepsWell p (b .kept) ≡ true
   -- an arrival is refused, misses a test, or passes all
   pub one : b .refused || (isReason (b .reason) || isFrame (b .kept)) ≡ b .arrived
-  -- no event is both
+  -- no event is both own sending and an arrival
   pub apart : b .sent && b .arrived ≡ false
 
 frame-fits : (p : Place) (h : Header) → couldBeRead h ≡ true → Fits p (ofArrival false (firstMiss p h) (keptBy (firstMiss p h) h))
