@@ -11,7 +11,7 @@ use Rattle.slot.specs.declared.status.Reason.{Reason}
 use Rattle.slot.specs.declared.status.Reason.the-variants.{NoReason, OtherId, OtherCycle, OtherWords, SyncOrStartup, NullFrame}
 use Rattle.slot.specs.Judging.{Place, firstMiss}
 use Rattle.slot_claims.specs.Content.{Static, Dynamic, SameId, SameCycle, FirstMissed, TestsExactly}
-use Rattle.slot_claims.proofs.Truth.{true-left, true-right}
+use Rattle.numbers.proofs.Truth.{true-left, true-right}
 
 module _ (p : Place) (h : Header) where
   -- what the words say, the rule gives

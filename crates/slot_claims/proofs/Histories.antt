@@ -13,7 +13,7 @@ use Rattle.slot.specs.Opening.{openingRefusals, Told}
 use Rattle.slot.specs.Sound.{sound}
 use Rattle.slot.specs.Events.{eventRefusals}
 use Rattle.slot_claims.specs.Histories.{Arrives, ArrivesRefused, Misses, PassesAll, Occurs, Some, History, HistoryOne, Calls, NoneRefused, Histories}
-use Rattle.slot_claims.proofs.Truth.{both-true, true-both, same-true}
+use Rattle.numbers.proofs.Truth.{both-true, true-both, same-true}
 use Rattle.slot_claims.proofs.ReasonLaws.{reason-there, there-reason, no-reason, frame-there, no-frame}
 use Rattle.slot_claims.proofs.Sound.{Clauses, clauses}
 use Rattle.slot_claims.proofs.SoundCalls.{fits, has-after, after-sound, fresh-sound}

@@ -23,7 +23,7 @@ use Rattle.frame_claims.proofs.Exact.{written-frame}
 use Rattle.slot.specs.Sound.{couldBeRead}
 use Rattle.slot.proofs.EventLaws.{accepted-none}
 use Rattle.slot_claims.specs.Sound.{Readable, CouldBeReadExactly}
-use Rattle.slot_claims.proofs.Truth.{both-true}
+use Rattle.numbers.proofs.Truth.{both-true}
 
 -- the five clauses
 could-parts : (h : Header) → couldBeRead h ≡ true

@@ -5,7 +5,7 @@ use mathlib.Core.List.{List, [], _∷_, _++_, List·Memᴰ, List·Memᴰ·head, 
 use mathlib.Core.Logic.{_⊎_, inl, inr, _↔_}
 use Rattle.slot.specs.Judging.{Event}
 use Rattle.slot_claims.specs.Histories.{Some, First}
-use Rattle.slot_claims.proofs.Truth.{either-true, true-left, true-right}
+use Rattle.numbers.proofs.Truth.{either-true, true-left, true-right}
 
 -- ---- the same said otherwise of each event
 

@@ -24,7 +24,7 @@ use Rattle.slot_claims.specs.Sound.{Readable, SoundStatus, SoundExactly}
 use Rattle.slot_claims.specs.Content.{Passes}
 use Rattle.slot_claims.proofs.ReasonLaws.{reason-there, there-reason, no-reason, frame-there}
 use Rattle.slot_claims.proofs.Content.{tests-exactly}
-use Rattle.slot_claims.proofs.Truth.{same-true, both-true, true-both, either-true, true-left, true-right}
+use Rattle.numbers.proofs.Truth.{same-true, both-true, true-both, either-true, true-left, true-right}
 use Rattle.slot_claims.proofs.Readable.{could-be-read-exactly}
 
 -- ---- the clauses of soundness

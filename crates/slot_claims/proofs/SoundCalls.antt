@@ -22,7 +22,8 @@ use Rattle.slot.specs.Sound.{couldBeRead, keepsWell, sound}
 use Rattle.slot.specs.Events.{eventRefusals}
 use Rattle.checksum.proofs.ChannelLaws.{is-a-channel}
 use Rattle.slot_claims.specs.Sound.{NoStatusUnsound, OpenedSound, EventSound}
-use Rattle.slot_claims.proofs.Truth.{true-both, true-left, first-is, first-has}
+use Rattle.numbers.proofs.Truth.{true-both, true-left}
+use Rattle.slot_claims.proofs.Truth.{first-is, first-has}
 use Rattle.slot_claims.proofs.Readable.{read-could}
 use Rattle.slot_claims.proofs.Sound.{clauses, clauses-sound}
 

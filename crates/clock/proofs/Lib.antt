@@ -1,0 +1,4 @@
+pub mod StatementLaws
+pub mod AnswerLaws
+pub mod SoundLaws
+pub mod RangeLaws

@@ -1,0 +1,26 @@
+use borrow.Author.Needs.{needs}
+use Rattle.clock.proofs.measuring.deviation_by.Statement.{statement}
+use Rattle.clock.proofs.measuring.deviation_by.Tie as tie
+use Rattle.clock.proofs.measuring.deviation_by.Reads as reads
+use Rattle.clock.proofs.measuring.deviation_by.Lts as lts
+use Rattle.clock.proofs.measuring.delay_on.Reads as delay-on-reads
+use Rattle.correction.proofs.deviation.Reads as deviation-reads
+use Rattle.settings.proofs.Settings.decoding_correction.Reads as decoding-correction-reads
+use mathlib.Core.Path.{_≡_, refl, sym, ap, _∙_}
+use mathlib.Core.Bool.{Bool, true, false, not, cond}
+
+delay-on-requires : tie.Need-delay-on-requires
+delay-on-requires c κs = search needs
+
+decoding-correction-requires : tie.Need-decoding-correction-requires
+decoding-correction-requires c κs = search needs
+
+deviation-requires : tie.Need-deviation-requires
+deviation-requires c κs = search needs
+
+returns : tie.Need-returns
+returns c = rw (c .before .decoding-correction .ensures, c .before .before .delay-on .ensures) at (c .deviation .ensures)
+
+pub deviation-by-spec : {M : Type 1} → statement M
+deviation-by-spec =
+    tie.close (tie.spec delay-on-requires decoding-correction-requires deviation-requires returns)

@@ -1,0 +1,32 @@
+use borrow.Author.Needs.{needs}
+use Rattle.clock.proofs.measuring.measured_already.Statement.{statement}
+use Rattle.clock.proofs.measuring.measured_already.Tie as tie
+use Rattle.clock.proofs.measuring.measured_already.Reads as reads
+use Rattle.clock.proofs.measuring.measured_already.Lts as lts
+use Rattle.clock.proofs.measuring.frame_of.Reads as frame-of-reads
+use Rattle.clock.proofs.state.Clock.list_of.Reads as list-of-reads
+use Rattle.clock.proofs.state.Clock.open_cycle.Reads as open-cycle-reads
+use Rattle.sync_list.proofs.list.SyncList.has.Reads as has-reads
+use mathlib.Core.Path.{_≡_, refl, sym, ap, _∙_}
+use mathlib.Core.Bool.{Bool, true, false, not, cond}
+
+frame-of-requires : tie.Need-frame-of-requires
+frame-of-requires c κs = search needs
+
+open-cycle-requires : tie.Need-open-cycle-requires
+open-cycle-requires c κs = search needs
+
+list-of-requires : tie.Need-list-of-requires
+list-of-requires c κs = search needs
+
+has-requires : tie.Need-has-requires
+has-requires c κs = search needs
+
+returns : tie.Need-returns
+returns c =
+    rw (c .before .list-of .ensures, c .before .before .open-cycle .ensures, c .before .before .before .frame-of .ensures) at (c .has .ensures)
+
+pub measured-already-spec : {M : Type 1} → statement M
+measured-already-spec =
+    tie.close
+    (tie.spec frame-of-requires open-cycle-requires list-of-requires has-requires returns)

@@ -1,0 +1,43 @@
+use borrow.Author.Needs.{needs}
+use Rattle.clock.proofs.measuring.measured_on.Statement.{statement}
+use Rattle.clock.proofs.measuring.measured_on.Tie as tie
+use Rattle.clock.proofs.measuring.measured_on.Reads as reads
+use Rattle.clock.proofs.measuring.measured_on.Lts as lts
+use Rattle.clock.proofs.measuring.frame_of.Reads as frame-of-reads
+use Rattle.clock.proofs.state.Clock.list_of.Reads as list-of-reads
+use Rattle.clock.proofs.state.Clock.open_cycle.Reads as open-cycle-reads
+use Rattle.clock.proofs.state.Clock.with_list.Reads as with-list-reads
+use Rattle.sync_list.proofs.list.SyncList.with.Reads as with-reads
+use mathlib.Core.Path.{_≡_, refl, sym, ap, _∙_}
+use mathlib.Core.Bool.{Bool, true, false, not, cond}
+
+frame-of-requires : tie.Need-frame-of-requires
+frame-of-requires c κs = search needs
+
+open-cycle-requires : tie.Need-open-cycle-requires
+open-cycle-requires c κs = search needs
+
+list-of-requires : tie.Need-list-of-requires
+list-of-requires c κs = search needs
+
+with-requires : tie.Need-with-requires
+with-requires c κs = search needs
+
+with-list-requires : tie.Need-with-list-requires
+with-list-requires c κs = search needs
+
+returns : tie.Need-returns
+returns c =
+    rw (c .before .with .ensures, c .before .before .list-of .ensures, c .before .before .before .open-cycle .ensures, c .before .before .before .before .frame-of .ensures)
+    at (c .with-list .ensures)
+
+pub measured-on-spec : {M : Type 1} → statement M
+measured-on-spec =
+    tie.close
+    (tie.spec
+    frame-of-requires
+    open-cycle-requires
+    list-of-requires
+    with-requires
+    with-list-requires
+    returns)

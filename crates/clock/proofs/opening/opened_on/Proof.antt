@@ -1,0 +1,31 @@
+use borrow.Author.Needs.{needs}
+use Rattle.clock.proofs.opening.opened_on.Statement.{statement}
+use Rattle.clock.proofs.opening.opened_on.Tie as tie
+use Rattle.clock.proofs.opening.opened_on.Reads as reads
+use Rattle.clock.proofs.opening.opened_on.Lts as lts
+use Rattle.clock.proofs.opening.even_after.Reads as even-after-reads
+use Rattle.sync_list.proofs.list.SyncList.empty.Reads as empty-reads
+use mathlib.Core.Path.{_≡_, refl, sym, ap, _∙_}
+use mathlib.Core.Bool.{Bool, true, false, not, cond}
+use Rattle.clock.specs.declared.state.CycleOrNone.the-variants.{Is}
+
+even-after-requires : tie.Need-even-after-requires
+even-after-requires c κs = search needs
+
+empty-requires : tie.Need-empty-requires
+empty-requires c κs = search needs
+
+returns : tie.Need-returns
+returns c =
+    let a = c .before .before .before .before .args in
+    λ i. record {
+      settings = a .clock .settings;
+      even = c .before .even-after .ensures i;
+      odd = c .empty .ensures i;
+      opened = Is (a .cycle);
+      «last_closed» = a .clock .«last_closed»;
+      rate = a .clock .rate;
+    }
+
+pub opened-on-spec : {M : Type 1} → statement M
+opened-on-spec = tie.close (tie.spec even-after-requires empty-requires returns)

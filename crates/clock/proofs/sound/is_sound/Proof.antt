@@ -1,0 +1,106 @@
+use borrow.Author.Needs.{needs}
+use Rattle.clock.proofs.sound.is_sound.Statement.{statement}
+use Rattle.clock.proofs.sound.is_sound.Tie as tie
+use Rattle.clock.proofs.sound.is_sound.Reads as reads
+use Rattle.clock.proofs.sound.is_sound.Lts as lts
+use Rattle.clock.proofs.sound.cycle_sound.Reads as cycle-sound-reads
+use Rattle.clock.proofs.sound.rate_sound.Reads as rate-sound-reads
+use Rattle.settings.proofs.Settings.first_out_of_range.Reads as first-out-of-range-reads
+use Rattle.settings.proofs.Settings.rate_limit.Reads as rate-limit-reads
+use Rattle.settings.proofs.Settings.sync_id_limit.Reads as sync-id-limit-reads
+use Rattle.sync_list.proofs.list.SyncList.is_sound.Reads as is-sound-reads
+use mathlib.Core.Path.{_≡_, refl, sym, ap, _∙_}
+use mathlib.Core.Bool.{Bool, true, false, not, cond}
+use borrow.Author.Tests.{not-true, not-false}
+use Rattle.clock.specs.Sound.{cycleSound, rateSound, sound}
+use Rattle.settings.specs.Sheet.{outOfRange, syncIdLimit}
+use Rattle.settings.proofs.SheetLaws.{out-of-range, in-range}
+use Rattle.sync_list.specs.Sound.{listSound}
+use Prim.Native.Nat.{ℕ}
+
+-- ---- what each test says of the state
+
+settings-in-range : (c : tie.Else1) → outOfRange (c .before .before .before .before .before .args .clock .settings) ≡ false
+settings-in-range c = in-range (c .before .before .before .before .before .args .clock .settings) (c .before .first-out-of-range .result) (c .before .first-out-of-range .ensures) (c .if1 .left)
+
+opened-sound : (c : tie.Else2) → cycleSound (c .before .before .before .before .before .before .before .args .clock .opened) ≡ true
+opened-sound c = sym (c .before .cycle-sound .ensures) ∙ not-false (c .before .cycle-sound .result) (c .if2 .left)
+
+closed-sound : (c : tie.Else3) → cycleSound (c .before .before .before .before .before .before .before .before .before .args .clock .«last_closed») ≡ true
+closed-sound c = sym (c .before .cycle-sound2 .ensures) ∙ not-false (c .before .cycle-sound2 .result) (c .if3 .left)
+
+even-is : (c : tie.After-is-sound) → listSound (syncIdLimit (c .before .before .before .before .before .before .before .before .before .before .before .args .clock .settings)) (c .before .before .before .before .before .before .before .before .before .before .before .args .clock .even) ≡ c .is-sound .result
+even-is c = sym (c .is-sound .ensures ∙ ap (λ (n : ℕ). listSound n (c .before .before .before .before .before .before .before .before .before .before .before .args .clock .even)) (c .before .sync-id-limit .ensures))
+
+even-sound : (c : tie.Else4) → listSound (syncIdLimit (c .before .before .before .before .before .before .before .before .before .before .before .before .args .clock .settings)) (c .before .before .before .before .before .before .before .before .before .before .before .before .args .clock .even) ≡ true
+even-sound c = even-is (c .before) ∙ not-false (c .before .is-sound .result) (c .if4 .left)
+
+odd-is : (c : tie.After-is-sound2) → listSound (syncIdLimit (c .before .before .before .before .before .before .before .before .before .before .before .before .before .args .clock .settings)) (c .before .before .before .before .before .before .before .before .before .before .before .before .before .args .clock .odd) ≡ c .is-sound2 .result
+odd-is c = sym (c .is-sound2 .ensures ∙ ap (λ (n : ℕ). listSound n (c .before .before .before .before .before .before .before .before .before .before .before .before .before .args .clock .odd)) (c .before .before .before .sync-id-limit .ensures))
+
+odd-sound : (c : tie.Else5) → listSound (syncIdLimit (c .before .before .before .before .before .before .before .before .before .before .before .before .before .before .args .clock .settings)) (c .before .before .before .before .before .before .before .before .before .before .before .before .before .before .args .clock .odd) ≡ true
+odd-sound c = odd-is (c .before) ∙ not-false (c .before .is-sound2 .result) (c .if5 .left)
+
+-- ---- each return
+
+first-out-of-range-requires : tie.Need-first-out-of-range-requires
+first-out-of-range-requires c κs = search needs
+
+returns : tie.Need-returns
+returns c = rw (out-of-range (c .before .before .before .before .before .args .clock .settings) (c .before .first-out-of-range .result) (c .before .first-out-of-range .ensures) (c .if1 .taken))
+
+cycle-sound-requires : tie.Need-cycle-sound-requires
+cycle-sound-requires c κs = search needs
+
+returns-2 : tie.Need-returns-2
+returns-2 c = rw (settings-in-range (c .before .before), sym (c .before .cycle-sound .ensures) ∙ not-true (c .before .cycle-sound .result) (c .if2 .taken))
+
+cycle-sound-requires-2 : tie.Need-cycle-sound-requires-2
+cycle-sound-requires-2 c κs = search needs
+
+returns-3 : tie.Need-returns-3
+returns-3 c = rw (settings-in-range (c .before .before .before .before), opened-sound (c .before .before), sym (c .before .cycle-sound2 .ensures) ∙ not-true (c .before .cycle-sound2 .result) (c .if3 .taken))
+
+sync-id-limit-requires : tie.Need-sync-id-limit-requires
+sync-id-limit-requires c κs = search needs
+
+is-sound-requires : tie.Need-is-sound-requires
+is-sound-requires c κs = search needs
+
+returns-4 : tie.Need-returns-4
+returns-4 c = rw (settings-in-range (c .before .before .before .before .before .before .before), opened-sound (c .before .before .before .before .before), closed-sound (c .before .before .before), even-is (c .before) ∙ not-true (c .before .is-sound .result) (c .if4 .taken))
+
+is-sound-requires-2 : tie.Need-is-sound-requires-2
+is-sound-requires-2 c κs = search needs
+
+returns-5 : tie.Need-returns-5
+returns-5 c = rw (settings-in-range (c .before .before .before .before .before .before .before .before .before), opened-sound (c .before .before .before .before .before .before .before), closed-sound (c .before .before .before .before .before), even-sound (c .before .before), odd-is (c .before) ∙ not-true (c .before .is-sound2 .result) (c .if5 .taken))
+
+rate-limit-requires : tie.Need-rate-limit-requires
+rate-limit-requires c κs = search needs
+
+rate-sound-requires : tie.Need-rate-sound-requires
+rate-sound-requires c κs = search needs
+
+returns-6 : tie.Need-returns-6
+returns-6 c = rw (settings-in-range (c .before .before .before .before .before .before .before .before .before .before .before), opened-sound (c .before .before .before .before .before .before .before .before .before), closed-sound (c .before .before .before .before .before .before .before), even-sound (c .before .before .before .before), odd-sound (c .before .before))
+    (c .rate-sound .ensures ∙ ap (rateSound (c .before .before .before .before .before .before .before .before .before .before .before .before .before .before .before .before .args .clock .rate)) (c .before .rate-limit .ensures))
+
+pub is-sound-spec : {M : Type 1} → statement M
+is-sound-spec =
+    tie.close
+    (tie.spec
+    first-out-of-range-requires
+    returns
+    cycle-sound-requires
+    returns-2
+    cycle-sound-requires-2
+    returns-3
+    sync-id-limit-requires
+    is-sound-requires
+    returns-4
+    is-sound-requires-2
+    returns-5
+    rate-limit-requires
+    rate-sound-requires
+    returns-6)

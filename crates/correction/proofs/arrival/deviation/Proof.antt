@@ -1,0 +1,99 @@
+use borrow.Author.Needs.{needs}
+use Rattle.correction.proofs.arrival.deviation.Statement.{statement}
+use Rattle.correction.proofs.arrival.deviation.Tie as tie
+use Rattle.correction.proofs.arrival.deviation.Reads as reads
+use Rattle.correction.proofs.arrival.deviation.Lts as lts
+use Rattle.correction.proofs.microtick.SignedMicrotick.holding.Reads as holding-reads
+use Prim.Native.Nat.{_<_, _^_}
+use mathlib.Core.Path.{_≡_, sym, ap, _∙_}
+use native.Mathlib.Omega.{arith}
+use lib.IntN.{pos, _-ℤ_}
+use mir.Syntax.{w64}
+use mir.Val.{SFits}
+use mir.Facts.{toZ-ofZ}
+use Rattle.numbers.proofs.Signed.{signed, sub-sums}
+use Rattle.numbers.proofs.Wide.{wide-unsigned}
+
+-- the three differences, each of which an i64 holds
+module _ (c : tie.After-struct-known) where
+  observed-small : c .before .args .observed .0 < 2 ^ 32
+  observed-small = omega arith
+
+  correction-small : c .before .args .correction < 2 ^ 32
+  correction-small = omega arith
+
+  delay-small : c .before .args .delay < 2 ^ 32
+  delay-small = omega arith
+
+  corrected : SFits w64 (pos (c .before .args .observed .0) -ℤ pos (c .before .args .correction))
+  corrected =
+      let h = observed-small in
+      let k = correction-small in
+      omega (signed, sub-sums (pos (c .before .args .observed .0)) (pos (c .before .args .correction)))
+
+  sent : SFits w64 (pos (c .before .args .observed .0) -ℤ pos (c .before .args .correction) -ℤ pos (c .before .args .delay))
+  sent =
+      let h = observed-small in
+      let k = correction-small in
+      let d = delay-small in
+      let x = pos (c .before .args .observed .0) in
+      let y = pos (c .before .args .correction) in
+      omega (signed, sub-sums x y, sub-sums (x -ℤ y) (pos (c .before .args .delay)))
+
+module _ (c : tie.After-struct-known2) where
+  action-point-small : c .before .before .args .action-point .0 < 2 ^ 32
+  action-point-small = omega arith
+
+  whole-fits : SFits w64 (pos (c .before .before .args .observed .0) -ℤ pos (c .before .before .args .correction) -ℤ pos (c .before .before .args .delay) -ℤ pos (c .before .before .args .action-point .0))
+  whole-fits =
+      let h = observed-small (c .before) in
+      let k = correction-small (c .before) in
+      let d = delay-small (c .before) in
+      let p = action-point-small in
+      let x = pos (c .before .before .args .observed .0) in
+      let y = pos (c .before .before .args .correction) in
+      let z = pos (c .before .before .args .delay) in
+      omega (signed, sub-sums x y, sub-sums (x -ℤ y) z, sub-sums (x -ℤ y -ℤ z) (pos (c .before .before .args .action-point .0)))
+
+cast-sent : tie.Need-cast-sent
+cast-sent c = search needs
+
+cast-sent-2 : tie.Need-cast-sent-2
+cast-sent-2 c = search needs
+
+sub-sent : tie.Need-sub-sent
+sub-sent c = rw (wide-unsigned _ (observed-small c), wide-unsigned _ (correction-small c)) (corrected c)
+
+cast-sent-3 : tie.Need-cast-sent-3
+cast-sent-3 c = search needs
+
+sub-sent-2 : tie.Need-sub-sent-2
+sub-sent-2 c = rw (wide-unsigned _ (observed-small c), wide-unsigned _ (correction-small c), toZ-ofZ (corrected c), wide-unsigned _ (delay-small c)) (sent c)
+
+cast-wide : tie.Need-cast-wide
+cast-wide c = search needs
+
+sub-wide : tie.Need-sub-wide
+sub-wide c = rw (wide-unsigned _ (observed-small (c .before)), wide-unsigned _ (correction-small (c .before)), toZ-ofZ (corrected (c .before)), wide-unsigned _ (delay-small (c .before)), toZ-ofZ (sent (c .before)), wide-unsigned _ (action-point-small c)) (whole-fits c)
+
+holding-requires : tie.Need-holding-requires
+holding-requires c κs = search needs
+
+returns : tie.Need-returns
+returns c =
+    let p = c .before in
+    rw (wide-unsigned _ (observed-small (p .before)), wide-unsigned _ (correction-small (p .before)), toZ-ofZ (corrected (p .before)), wide-unsigned _ (delay-small (p .before)), toZ-ofZ (sent (p .before)), wide-unsigned _ (action-point-small p), toZ-ofZ (whole-fits p)) at (c .holding .ensures)
+
+pub deviation-spec : {M : Type 1} → statement M
+deviation-spec =
+    tie.close
+    (tie.spec
+    cast-sent
+    cast-sent-2
+    sub-sent
+    cast-sent-3
+    sub-sent-2
+    cast-wide
+    sub-wide
+    holding-requires
+    returns)

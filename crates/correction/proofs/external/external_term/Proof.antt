@@ -1,0 +1,53 @@
+use borrow.Author.Needs.{needs}
+use Rattle.correction.proofs.external.external_term.Statement.{statement}
+use Rattle.correction.proofs.external.external_term.Tie as tie
+use Rattle.correction.proofs.external.external_term.Reads as reads
+use Rattle.correction.proofs.external.external_term.Lts as lts
+use Prim.Native.Nat.{_<_, _^_}
+use mathlib.Core.Path.{_≡_, refl, sym, ap, _∙_}
+use native.Mathlib.Omega.{arith}
+use mir.Facts.{toZ-ofZ}
+use Rattle.numbers.proofs.Wide.{wide-unsigned, wide-negated}
+use Rattle.correction.specs.declared.external.Control.{Control}
+use Rattle.correction.specs.External.{signOf, externalTerm}
+use Rattle.correction.proofs.ControlLaws.{external-less, external-same, external-more}
+
+small : (c : tie.Start) → c .args .unit < 2 ^ 32
+small c = omega arith
+
+cast-wide : tie.Need-cast-wide
+cast-wide c = search needs
+
+enum-told : tie.Need-enum-told
+enum-told c = search needs
+
+sub-result : tie.Need-sub-result
+sub-result c = rw (wide-unsigned _ (small (c .before .before))) (wide-negated _ (small (c .before .before)))
+
+enum-told-2 : tie.Need-enum-told-2
+enum-told-2 c = search needs
+
+enum-told-3 : tie.Need-enum-told-3
+enum-told-3 c = search needs
+
+returns : tie.Need-returns
+returns c =
+    let s = c .before .before in
+    rw (wide-unsigned _ (small s), toZ-ofZ (wide-negated _ (small s)))
+    (external-less (s .args .unit) ∙ sym (ap (λ (k : Control). externalTerm (signOf k) (s .args .unit)) (c .enum-told .given .1)))
+
+returns-2 : tie.Need-returns-2
+returns-2 c =
+    external-same (c .before .before .args .unit)
+    ∙ sym (ap (λ (k : Control). externalTerm (signOf k) (c .before .before .args .unit)) (c .enum-told2 .given .1))
+
+returns-3 : tie.Need-returns-3
+returns-3 c =
+    let s = c .before .before in
+    rw (wide-unsigned _ (small s))
+    (external-more (s .args .unit) ∙ sym (ap (λ (k : Control). externalTerm (signOf k) (s .args .unit)) (c .enum-told3 .given .1)))
+
+pub external-term-spec : {M : Type 1} → statement M
+external-term-spec =
+    tie.close
+    (tie.spec cast-wide enum-told sub-result enum-told-2 enum-told-3 returns returns-2 returns-3)

@@ -1,0 +1,107 @@
+use borrow.Author.Needs.{needs}
+use Rattle.correction.proofs.term.damped.Statement.{statement}
+use Rattle.correction.proofs.term.damped.Tie as tie
+use Rattle.correction.proofs.term.damped.Reads as reads
+use Rattle.correction.proofs.term.damped.Lts as lts
+use Prim.Native.Nat.{_<_, _^_}
+use mathlib.Core.Path.{_≡_, refl, sym, ap, _∙_}
+use mathlib.Core.Bool.{true, false}
+use native.Mathlib.Omega.{arith}
+use lib.IntN.{pos, negℤ, _+ℤ_, _-ℤ_, +ℤ-idl}
+use lib.Signed.{ltZ}
+use mir.Syntax.{w32, w64}
+use mir.Val.{SFits}
+use mir.Facts.{toZ-ofZ}
+use Rattle.numbers.proofs.Signed.{signed, add-sum, sub-sums, up-neg, dn-neg}
+use Rattle.numbers.proofs.Wide.{wide-unsigned, wide-asked, wide-signed, wide-negated, wide-fits}
+
+x-fits : (c : tie.Start) → SFits w32 (c .args .x .0)
+x-fits c = search needs
+
+d-small : (c : tie.Start) → c .args .d < 2 ^ 32
+d-small c = omega arith
+
+-- what each test showed
+over : (c : tie.Then1) → ltZ (pos (c .before .before .before .args .d)) (c .before .before .before .args .x .0) ≡ true
+over c =
+    let s = c .before .before .before in
+    rw (wide-unsigned _ (d-small s), wide-signed (x-fits s)) at (c .if1 .taken)
+
+not-over : (c : tie.Else1) → ltZ (pos (c .before .before .before .args .d)) (c .before .before .before .args .x .0) ≡ false
+not-over c =
+    let s = c .before .before .before in
+    rw (wide-unsigned _ (d-small s), wide-signed (x-fits s)) at (c .if1 .left)
+
+under : (c : tie.Then2) → ltZ (c .before .before .before .before .args .x .0) (negℤ (pos (c .before .before .before .before .args .d))) ≡ true
+under c =
+    let s = c .before .before .before .before in
+    rw (wide-signed (x-fits s), wide-unsigned _ (d-small s), toZ-ofZ (wide-negated _ (d-small s)), +ℤ-idl) at (c .if2 .taken)
+
+not-under : (c : tie.Else2) → ltZ (c .before .before .before .before .args .x .0) (negℤ (pos (c .before .before .before .before .args .d))) ≡ false
+not-under c =
+    let s = c .before .before .before .before in
+    rw (wide-signed (x-fits s), wide-unsigned _ (d-small s), toZ-ofZ (wide-negated _ (d-small s)), +ℤ-idl) at (c .if2 .left)
+
+-- a number that is brought toward zero fits where it fitted
+less-fits : (c : tie.Then1) → SFits w32 (c .before .before .before .args .x .0 -ℤ pos (c .before .before .before .args .d))
+less-fits c =
+    let a = c .before .before .before .args in
+    let f = x-fits (c .before .before .before) in
+    let t = over c in
+    omega (signed, sub-sums (a .x .0) (pos (a .d)))
+
+more-fits : (c : tie.Then2) → SFits w32 (c .before .before .before .before .args .x .0 +ℤ pos (c .before .before .before .before .args .d))
+more-fits c =
+    let a = c .before .before .before .before .args in
+    let f = x-fits (c .before .before .before .before) in
+    let t = under c in
+    omega (signed, add-sum (a .x .0) (pos (a .d)), up-neg (pos (a .d)), dn-neg (pos (a .d)))
+
+cast-rate : tie.Need-cast-rate
+cast-rate c = wide-asked (x-fits (c .before .before))
+
+cast-damping : tie.Need-cast-damping
+cast-damping c = search needs
+
+sub-t6 : tie.Need-sub-t6
+sub-t6 c = rw (wide-signed (x-fits (c .before .before .before)), wide-unsigned _ (d-small (c .before .before .before))) (wide-fits (less-fits c))
+
+cast-t7 : tie.Need-cast-t7
+cast-t7 c = rw (wide-signed (x-fits (c .before .before .before)), wide-unsigned _ (d-small (c .before .before .before)), toZ-ofZ (wide-fits (less-fits c))) (less-fits c)
+
+returns : tie.Need-returns
+returns c =
+    let s = c .before .before .before in
+    rw (wide-signed (x-fits s), wide-unsigned _ (d-small s), toZ-ofZ (wide-fits (less-fits c)), toZ-ofZ (less-fits c), over c)
+
+sub-if2 : tie.Need-sub-if2
+sub-if2 c = rw (wide-unsigned _ (d-small (c .before .before .before))) (wide-negated _ (d-small (c .before .before .before)))
+
+add-t9 : tie.Need-add-t9
+add-t9 c = rw (wide-signed (x-fits (c .before .before .before .before)), wide-unsigned _ (d-small (c .before .before .before .before))) (wide-fits (more-fits c))
+
+cast-t10 : tie.Need-cast-t10
+cast-t10 c = rw (wide-signed (x-fits (c .before .before .before .before)), wide-unsigned _ (d-small (c .before .before .before .before)), toZ-ofZ (wide-fits (more-fits c))) (more-fits c)
+
+returns-2 : tie.Need-returns-2
+returns-2 c =
+    let s = c .before .before .before .before in
+    rw (wide-signed (x-fits s), wide-unsigned _ (d-small s), toZ-ofZ (wide-fits (more-fits c)), toZ-ofZ (more-fits c), not-over (c .before), under c)
+
+returns-3 : tie.Need-returns-3
+returns-3 c = rw (not-over (c .before), not-under c)
+
+pub damped-spec : {M : Type 1} → statement M
+damped-spec =
+    tie.close
+    (tie.spec
+    cast-rate
+    cast-damping
+    sub-t6
+    cast-t7
+    returns
+    sub-if2
+    add-t9
+    cast-t10
+    returns-2
+    returns-3)

@@ -1,0 +1,92 @@
+use borrow.Author.Needs.{needs}
+use Rattle.correction.proofs.term.limited.Statement.{statement}
+use Rattle.correction.proofs.term.limited.Tie as tie
+use Rattle.correction.proofs.term.limited.Reads as reads
+use Rattle.correction.proofs.term.limited.Lts as lts
+use Prim.Native.Nat.{_<_, _^_}
+use mathlib.Core.Path.{_≡_, refl, sym, ap, _∙_}
+use mathlib.Core.Bool.{true, false}
+use native.Mathlib.Omega.{arith}
+use lib.IntN.{pos, negℤ, _+ℤ_, _-ℤ_, +ℤ-idl}
+use lib.Signed.{ltZ}
+use mir.Syntax.{w32, w64}
+use mir.Val.{SFits}
+use mir.Facts.{toZ-ofZ}
+use Rattle.numbers.proofs.Signed.{signed, add-sum, sub-sums, up-neg, dn-neg}
+use Rattle.numbers.proofs.Wide.{wide-unsigned, wide-asked, wide-signed, wide-negated, wide-fits}
+
+x-fits : (c : tie.Start) → SFits w32 (c .args .x .0)
+x-fits c = search needs
+
+limit-small : (c : tie.Start) → c .args .limit < 2 ^ 32
+limit-small c = omega arith
+
+-- what each test showed
+over : (c : tie.Then1) → ltZ (pos (c .before .before .before .args .limit)) (c .before .before .before .args .x .0) ≡ true
+over c =
+    let s = c .before .before .before in
+    rw (wide-unsigned _ (limit-small s), wide-signed (x-fits s)) at (c .if1 .taken)
+
+not-over : (c : tie.Else1) → ltZ (pos (c .before .before .before .args .limit)) (c .before .before .before .args .x .0) ≡ false
+not-over c =
+    let s = c .before .before .before in
+    rw (wide-unsigned _ (limit-small s), wide-signed (x-fits s)) at (c .if1 .left)
+
+under : (c : tie.Then2) → ltZ (c .before .before .before .before .args .x .0) (negℤ (pos (c .before .before .before .before .args .limit))) ≡ true
+under c =
+    let s = c .before .before .before .before in
+    rw (wide-signed (x-fits s), wide-unsigned _ (limit-small s), toZ-ofZ (wide-negated _ (limit-small s)), +ℤ-idl) at (c .if2 .taken)
+
+not-under : (c : tie.Else2) → ltZ (c .before .before .before .before .args .x .0) (negℤ (pos (c .before .before .before .before .args .limit))) ≡ false
+not-under c =
+    let s = c .before .before .before .before in
+    rw (wide-signed (x-fits s), wide-unsigned _ (limit-small s), toZ-ofZ (wide-negated _ (limit-small s)), +ℤ-idl) at (c .if2 .left)
+
+-- a limit that a number lies outside of fits where the number fits
+highest-fits : (c : tie.Then1) → SFits w32 (pos (c .before .before .before .args .limit))
+highest-fits c =
+    let f = x-fits (c .before .before .before) in
+    let t = over c in
+    omega signed
+
+lowest-fits : (c : tie.Then2) → SFits w32 (negℤ (pos (c .before .before .before .before .args .limit)))
+lowest-fits c =
+    let f = x-fits (c .before .before .before .before) in
+    let t = under c in
+    let l = pos (c .before .before .before .before .args .limit) in
+    omega (signed, up-neg l, dn-neg l)
+
+cast-term : tie.Need-cast-term
+cast-term c = wide-asked (x-fits (c .before .before))
+
+cast-highest : tie.Need-cast-highest
+cast-highest c = search needs
+
+sub-lowest : tie.Need-sub-lowest
+sub-lowest c = rw (wide-unsigned _ (limit-small (c .before .before))) (wide-negated _ (limit-small (c .before .before)))
+
+cast-t7 : tie.Need-cast-t7
+cast-t7 c = rw (wide-unsigned _ (limit-small (c .before .before .before))) (highest-fits c)
+
+returns : tie.Need-returns
+returns c =
+    let s = c .before .before .before in
+    rw (wide-unsigned _ (limit-small s), toZ-ofZ (highest-fits c), over c)
+
+cast-t9 : tie.Need-cast-t9
+cast-t9 c =
+    let s = c .before .before .before .before in
+    rw (wide-unsigned _ (limit-small s), toZ-ofZ (wide-negated _ (limit-small s)), +ℤ-idl) (lowest-fits c)
+
+returns-2 : tie.Need-returns-2
+returns-2 c =
+    let s = c .before .before .before .before in
+    rw (wide-unsigned _ (limit-small s), toZ-ofZ (wide-negated _ (limit-small s)), +ℤ-idl, toZ-ofZ (lowest-fits c), not-over (c .before), under c)
+
+returns-3 : tie.Need-returns-3
+returns-3 c = rw (not-over (c .before), not-under c)
+
+pub limited-spec : {M : Type 1} → statement M
+limited-spec =
+    tie.close
+    (tie.spec cast-term cast-highest sub-lowest cast-t7 returns cast-t9 returns-2 returns-3)

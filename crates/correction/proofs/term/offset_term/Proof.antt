@@ -1,0 +1,41 @@
+use borrow.Author.Needs.{needs}
+use Rattle.correction.proofs.term.offset_term.Statement.{statement}
+use Rattle.correction.proofs.term.offset_term.Tie as tie
+use Rattle.correction.proofs.term.offset_term.Reads as reads
+use Rattle.correction.proofs.term.offset_term.Lts as lts
+use Rattle.correction.proofs.term.Values.has_none.Reads as has-none-reads
+use Rattle.correction.proofs.term.Values.middle.Reads as middle-reads
+use Rattle.correction.proofs.term.limited.Reads as limited-reads
+use mathlib.Core.Path.{_≡_, sym, ap, _∙_}
+use mathlib.Core.Bool.{true, false}
+use Rattle.correction.specs.Terms.{isNone, valuesIn, limited}
+use Rattle.correction.proofs.TermLaws.{some-counted, offset-none, offset-some}
+
+has-some : (c : tie.Else1) → isNone (valuesIn (c .before .before .args .values)) ≡ false
+has-some c = sym (c .before .has-none .ensures) ∙ c .if1 .left
+
+has-none-requires : tie.Need-has-none-requires
+has-none-requires c κs = search needs
+
+returns : tie.Need-returns
+returns c =
+    let a = c .before .before .args in
+    let none : isNone (valuesIn (a .values)) ≡ true = sym (c .before .has-none .ensures) ∙ c .if1 .taken in
+    sym (offset-none (a .sends-sync) (a .limit) (valuesIn (a .values)) none)
+
+middle-requires : tie.Need-middle-requires
+middle-requires c κs = some-counted (c .before .before .args .values) (has-some c)
+
+limited-requires : tie.Need-limited-requires
+limited-requires c κs = search needs
+
+returns-2 : tie.Need-returns-2
+returns-2 c =
+    let a = c .before .before .before .before .args in
+    c .limited .ensures
+    ∙ ap (limited (a .limit)) (c .before .middle .ensures)
+    ∙ sym (offset-some (a .sends-sync) (a .limit) (valuesIn (a .values)) (has-some (c .before .before)))
+
+pub offset-term-spec : {M : Type 1} → statement M
+offset-term-spec =
+    tie.close (tie.spec has-none-requires returns middle-requires limited-requires returns-2)

@@ -1,0 +1,93 @@
+use borrow.Author.Needs.{needs}
+use Rattle.correction.proofs.term.rate_term.Statement.{statement}
+use Rattle.correction.proofs.term.rate_term.Tie as tie
+use Rattle.correction.proofs.term.rate_term.Reads as reads
+use Rattle.correction.proofs.term.rate_term.Lts as lts
+use Rattle.correction.proofs.microtick.SignedMicrotick.holding.Reads as holding-reads
+use Rattle.correction.proofs.term.Values.has_none.Reads as has-none-reads
+use Rattle.correction.proofs.term.Values.middle.Reads as middle-reads
+use Rattle.correction.proofs.term.damped.Reads as damped-reads
+use Rattle.correction.proofs.term.limited.Reads as limited-reads
+use mathlib.Core.Path.{_≡_, sym, ap, _∙_}
+use mathlib.Core.Bool.{true, false}
+use lib.IntN.{ℤ, _+ℤ_}
+use mir.Syntax.{w32}
+use mir.Val.{SFits}
+use mir.Facts.{toZ-ofZ}
+use Rattle.numbers.proofs.Wide.{wide-asked, wide-signed, wide-sum}
+use Rattle.midpoint.specs.Midpoint.{midpoint}
+use Rattle.correction.specs.Microtick.{held}
+use Rattle.correction.specs.Terms.{isNone, valuesIn, withOwn, damped, limited}
+use Rattle.correction.proofs.TermLaws.{some-counted, rate-none, rate-some}
+
+has-some : (c : tie.Else1) → isNone (valuesIn (c .before .before .args .values)) ≡ false
+has-some c = sym (c .before .has-none .ensures) ∙ c .if1 .left
+
+middle-fits : (c : tie.After-middle) → SFits w32 (c .middle .result .0)
+middle-fits c = search needs
+
+stored-fits : (c : tie.Start) → SFits w32 (c .args .stored .0)
+stored-fits c = search needs
+
+has-none-requires : tie.Need-has-none-requires
+has-none-requires c κs = search needs
+
+returns : tie.Need-returns
+returns c =
+    let a = c .before .before .args in
+    let none : isNone (valuesIn (a .values)) ≡ true = sym (c .before .has-none .ensures) ∙ c .if1 .taken in
+    sym (rate-none (a .sends-sync) (a .limit) held (a .stored .0) (a .damping) (valuesIn (a .values)) none)
+
+middle-requires : tie.Need-middle-requires
+middle-requires c κs = some-counted (c .before .before .args .values) (has-some c)
+
+cast-wide : tie.Need-cast-wide
+cast-wide c = wide-asked (middle-fits (c .before .before))
+
+cast-wide-2 : tie.Need-cast-wide-2
+cast-wide-2 c = wide-asked (stored-fits (c .before .before .before .before .before .before .before))
+
+add-wide : tie.Need-add-wide
+add-wide c =
+    let f = middle-fits (c .before .before .before .before) in
+    let g = stored-fits (c .before .before .before .before .before .before .before) in
+    rw (wide-signed f, wide-signed g) (wide-sum f g)
+
+holding-requires : tie.Need-holding-requires
+holding-requires c κs = search needs
+
+damped-requires : tie.Need-damped-requires
+damped-requires c κs = search needs
+
+limited-requires : tie.Need-limited-requires
+limited-requires c κs = search needs
+
+returns-2 : tie.Need-returns-2
+returns-2 c =
+    let m = c .before .before .before .before .before .before .before in
+    let a = m .before .before .before .args in
+    let f = middle-fits m in
+    let g = stored-fits (m .before .before .before) in
+    let added : c .before .before .holding .result .0 ≡ held (m .middle .result .0 +ℤ a .stored .0) =
+    rw (wide-signed f, wide-signed g, toZ-ofZ (wide-sum f g)) at (c .before .before .holding .ensures) in
+    let rate : c .before .damped .result .0 ≡ damped (a .damping) (held (midpoint (withOwn (a .sends-sync) (valuesIn (a .values))) +ℤ a .stored .0)) =
+    c .before .damped .ensures
+    ∙ ap (damped (a .damping)) (added ∙ ap (λ (x : ℤ). held (x +ℤ a .stored .0)) (m .middle .ensures)) in
+    c .limited .ensures
+    ∙ ap (limited (a .limit)) rate
+    ∙ sym (rate-some (a .sends-sync) (a .limit) held (a .stored .0) (a .damping) (valuesIn (a .values)) (has-some (m .before)))
+
+pub rate-term-spec : {M : Type 1} → statement M
+rate-term-spec =
+    tie.close
+    (tie.spec
+    has-none-requires
+    returns
+    middle-requires
+    cast-wide
+    cast-wide-2
+    add-wide
+    holding-requires
+    damped-requires
+    limited-requires
+    returns-2)

@@ -1,0 +1,5 @@
+pub mod Microtick
+pub mod Deviation
+pub mod Values
+pub mod Terms
+pub mod External

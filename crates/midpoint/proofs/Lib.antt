@@ -1,0 +1,5 @@
+pub mod SortLaws
+pub mod PassLaws
+pub mod MiddleLaws
+pub mod OrderLaws
+pub mod RangeLaws

@@ -1,0 +1,3 @@
+pub mod Midpoint
+pub mod Pass
+pub mod Order

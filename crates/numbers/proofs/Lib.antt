@@ -1,0 +1,4 @@
+pub mod Signed
+pub mod Truth
+pub mod Walk
+pub mod Wide

@@ -1,0 +1,4 @@
+pub mod PlaceLaws
+pub mod ListLaws
+pub mod ValueLaws
+pub mod RangeLaws

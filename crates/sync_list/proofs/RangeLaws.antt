@@ -1,0 +1,129 @@
+-- Sound rows: every difference of deviations fits, and no rate value is farther from zero than two deviations can be apart.
+use Prim.Native.Nat.{ℕ, zero, suc, _+_, _≤_}
+use mathlib.Core.Path.{_≡_, refl, ap}
+use mathlib.Core.Bool.{true, not, _||_}
+use mathlib.Core.List.{List, [], _∷_, map}
+use native.Mathlib.Omega.{arith}
+use lib.IntN.{ℤ, _-ℤ_}
+use lib.ListN.{getD}
+use lib.Signed.{leZ}
+use mir.Syntax.{w32}
+use mir.Val.{SFits}
+use Rattle.numbers.proofs.Signed.{up, dn, le-sums, sub-sums, one-sided, sfits-by}
+use Rattle.numbers.proofs.Truth.{both-true}
+use Rattle.midpoint.proofs.RangeLaws.{Near, Within, none, more, half-within}
+use Rattle.frame.specs.declared.header.Slot.{Slot}
+use Rattle.frame.specs.Refusals.{notAnId}
+use Rattle.correction.specs.declared.value.Value.{Value}
+use Rattle.correction.specs.declared.value.Value.the-variants as value
+use Rattle.correction.specs.Microtick.{lowestDeviation, highestDeviation, isDeviation, held, whole}
+use Rattle.correction.specs.Values.{difference, joined, rateValue}
+use Rattle.correction.proofs.HeldLaws.{held-fits}
+use Rattle.sync_list.specs.declared.row.Measured.{Measured}
+use Rattle.sync_list.specs.declared.row.Measured.the-variants.{Nothing, Is}
+use Rattle.sync_list.specs.declared.row.Row.{Row}
+use Rattle.sync_list.specs.Rows.{blank, isMeasured, valueOf, deviationsOf}
+use Rattle.sync_list.specs.Lists.{idOf, idsOf, placeAmong, rowIn}
+use Rattle.sync_list.specs.Sound.{isInRange, rowSound, rowsSound}
+use Rattle.sync_list.specs.Values.{before, present, rateValues}
+
+-- ---- two deviations
+
+-- how far apart they can be
+abbrev pub spread : ℕ
+spread = up highestDeviation + dn lowestDeviation
+
+deviation-parts : (d : ℤ) → isDeviation d ≡ true → (up d ≤ dn d + up highestDeviation) × (dn d ≤ up d + dn lowestDeviation)
+deviation-parts d e =
+    let h = both-true (leZ lowestDeviation d) (leZ d highestDeviation) e in
+    let low = le-sums lowestDeviation d (h .0) in
+    let high = le-sums d highestDeviation (h .1) in
+    (omega arith, omega arith)
+
+apart : (x y : ℤ) → isDeviation x ≡ true → isDeviation y ≡ true → Near spread (x -ℤ y)
+apart x y ex ey =
+    let px = deviation-parts x ex in
+    let py = deviation-parts y ey in
+    let d = sub-sums x y in
+    let s = one-sided (x -ℤ y) in
+    (omega arith, omega arith)
+
+-- ---- the rate value of an ID
+
+-- a value, where there is one, is near
+abbrev NearValue : Value → Type 0
+NearValue value.Absent = Unit {0}
+NearValue (value.Is x) = Near spread (x .0)
+
+held-difference : (odd even : Measured) → isInRange odd ≡ true → isInRange even ≡ true
+    → (difference held (valueOf odd) (valueOf even) ≡ difference whole (valueOf odd) (valueOf even)) × NearValue (difference whole (valueOf odd) (valueOf even))
+held-difference Nothing even o e = (refl, tt)
+held-difference (Is x) Nothing o e = (refl, tt)
+held-difference (Is x) (Is y) o e =
+    let n = apart (x .deviation .0) (y .deviation .0) o e in
+    let f : SFits w32 (x .deviation .0 -ℤ y .deviation .0) = sfits-by (omega (arith, n .0)) (omega (arith, n .1)) in
+    (ap (λ (z : ℤ). value.Is (record { 0 = z })) (held-fits (x .deviation .0 -ℤ y .deviation .0) f), n)
+
+near-joined : (a b : Value) → NearValue a → NearValue b → NearValue (joined a b)
+near-joined value.Absent b na nb = nb
+near-joined (value.Is x) value.Absent na nb = na
+near-joined (value.Is x) (value.Is y) na nb = half-within spread (x .0) (y .0) na nb
+
+-- both channels' deviations of a row are in their range
+pub record Ranged (row : Row) : Type 0 where
+  pub on-a : isInRange (row .«on_a») ≡ true
+  pub on-b : isInRange (row .«on_b») ≡ true
+
+pub row-ranged : (row : Row) → rowSound row ≡ true → Ranged row
+row-ranged row e =
+    let h₁ = both-true (not (notAnId (idOf row))) _ e in
+    let h₂ = both-true (isMeasured (row .«on_a») || isMeasured (row .«on_b»)) _ (h₁ .1) in
+    let h₃ = both-true (isInRange (row .«on_a»)) (isInRange (row .«on_b»)) (h₂ .1) in
+    record { on-a = h₃ .0; on-b = h₃ .1 }
+
+module _ (odd even : Row) (o : Ranged odd) (e : Ranged even) where
+  held-value : rateValue held (deviationsOf odd) (deviationsOf even) ≡ rateValue whole (deviationsOf odd) (deviationsOf even)
+  held-value =
+      let a = held-difference (odd .«on_a») (even .«on_a») (o .on-a) (e .on-a) .0 in
+      let b = held-difference (odd .«on_b») (even .«on_b») (o .on-b) (e .on-b) .0 in
+      λ i. joined (a i) (b i)
+
+  near-value : NearValue (rateValue whole (deviationsOf odd) (deviationsOf even))
+  near-value =
+      near-joined (difference whole (valueOf (odd .«on_a»)) (valueOf (even .«on_a»))) (difference whole (valueOf (odd .«on_b»)) (valueOf (even .«on_b»)))
+      (held-difference (odd .«on_a») (even .«on_a») (o .on-a) (e .on-a) .1)
+      (held-difference (odd .«on_b») (even .«on_b») (o .on-b) (e .on-b) .1)
+
+-- ---- the rate values of a list
+
+get-ranged : (rows : List Row) (i : ℕ) (d : Row) → rowsSound rows ≡ true → Ranged d → Ranged (getD rows i d)
+unfolding rowsSound
+get-ranged [] i d e r = r
+get-ranged (row ∷ rows) zero d e r = row-ranged row (both-true (rowSound row) (rowsSound rows) e .0)
+get-ranged (row ∷ rows) (suc i) d e r = get-ranged rows i d (both-true (rowSound row) (rowsSound rows) e .1) r
+
+in-ranged : (rows : List Row) (id : Slot) → rowsSound rows ≡ true → Ranged (rowIn id rows)
+in-ranged rows id e = get-ranged rows (placeAmong (id .0) (idsOf rows)) (blank id) e (record { on-a = refl; on-b = refl })
+
+module _ (even : List Row) (e : rowsSound even ≡ true) where
+  pub rates-held : (odd : List Row) → rowsSound odd ≡ true → rateValues held odd even ≡ rateValues whole odd even
+  unfolding rowsSound present
+  rates-held [] o = refl
+  rates-held (row ∷ rows) o =
+      let h = both-true (rowSound row) (rowsSound rows) o in
+      let same = held-value row (rowIn (row .id) even) (row-ranged row (h .0)) (in-ranged even (row .id) e) in
+      let rest : rateValues held rows even ≡ rateValues whole rows even = rates-held rows (h .1) in
+      λ i. before (same i) (rest i)
+
+  near-before : (v : Value) (numbers : List ℤ) → NearValue v → Within spread numbers → Within spread (before v numbers)
+  near-before value.Absent numbers n w = w
+  near-before (value.Is x) numbers n w = more n w
+
+  pub rates-near : (odd : List Row) → rowsSound odd ≡ true → Within spread (rateValues whole odd even)
+  unfolding rowsSound present
+  rates-near [] o = none
+  rates-near (row ∷ rows) o =
+      let h = both-true (rowSound row) (rowsSound rows) o in
+      near-before (rateValue whole (deviationsOf row) (deviationsOf (rowIn (row .id) even))) (rateValues whole rows even)
+      (near-value row (rowIn (row .id) even) (row-ranged row (h .0)) (in-ranged even (row .id) e))
+      (rates-near rows (h .1))

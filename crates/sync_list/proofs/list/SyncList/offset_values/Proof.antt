@@ -1,0 +1,161 @@
+use borrow.Author.Needs.{needs}
+use Rattle.sync_list.proofs.list.SyncList.offset_values.Statement.{statement}
+use Rattle.sync_list.proofs.list.SyncList.offset_values.Tie as tie
+use Rattle.sync_list.proofs.list.SyncList.offset_values.Reads as reads
+use Rattle.sync_list.proofs.list.SyncList.offset_values.Lts as lts
+use Rattle.correction.proofs.offset_value.Reads as offset-value-reads
+use Rattle.sync_list.proofs.list.SyncList.listed.Reads as listed-reads
+use Rattle.sync_list.proofs.row.Row.deviations.Reads as deviations-reads
+use Prim.Native.Nat.{_≤_, _<_, _-_, _+_, suc}
+use mathlib.Core.Path.{_≡_, refl, sym, ap, _∙_}
+use mathlib.Core.Bool.{true, false}
+use mathlib.Core.List.{[], _∷_, _++_, map, append-nil}
+use native.Mathlib.Numerals.{add-one}
+use native.Mathlib.Omega.{arith}
+use lib.ListN.{length, getD, take, drop, length-set}
+use mir.Syntax.{w32}
+use mir.Val.{SFits}
+use mir.Facts.{toZ-ofZ}
+use Rattle.numbers.proofs.Walk.{rest, rest-end, came, length-of-mapped}
+use Rattle.correction.specs.Values.{offsetValue}
+use Rattle.correction.specs.declared.value.Value.{Value}
+use Rattle.correction.specs.declared.value.Value.the-variants.{Absent, Is}
+use Rattle.sync_list.specs.declared.row.Row.{Row}
+use Rattle.sync_list.specs.Rows.{blank, deviationsOf}
+use Rattle.sync_list.specs.Lists.{rowCount}
+use Rattle.sync_list.proofs.ListLaws.{listed-few, listed-rows}
+use Rattle.sync_list.proofs.ValueLaws.{Gathered, gather-none, gather-one, gather-end}
+use borrow.Author.Tests.{le-leb}
+use Rattle.correction.specs.Terms.{mostIds}
+use Rattle.sync_list.specs.Values.{offsetValues}
+use Prim.Native.Nat.{ℕ}
+use Rattle.sync_list.specs.Lists.{listed}
+
+abbrev Inv-loop : tie.InvT-loop
+Inv-loop rows listed numbers₀ count₀ i₀ numbers count i =
+    (listed ≤ rowCount) × (i ≤ listed) × (count ≤ i) × (length numbers ≡ 16)
+    × Gathered (λ (row : Row). offsetValue (deviationsOf row)) numbers count (take listed rows) (drop i (take listed rows))
+
+abbrev μ-loop : tie.MeasureT-loop
+μ-loop rows listed numbers₀ count₀ i₀ numbers count i = listed - i
+
+long : (c : tie.Start Inv-loop μ-loop) → length (c .args .self .rows) ≡ rowCount
+long c = search (needs, length-of-mapped)
+
+few : (c : tie.After-listed Inv-loop μ-loop) → c .listed .result ≤ rowCount
+few c = rw (c .listed .ensures) (listed-few (c .before .before .args .self) (long (c .before .before)))
+
+in-rows : (c : tie.After-listed Inv-loop μ-loop) → c .listed .result ≤ length (c .before .before .args .self .rows)
+in-rows c = rw (long (c .before .before)) (few c)
+
+are-listed : (c : tie.After-listed Inv-loop μ-loop) → take (c .listed .result) (c .before .before .args .self .rows) ≡ listed (c .before .before .args .self)
+are-listed c =
+    ap (λ (n : ℕ). take n (c .before .before .args .self .rows)) (c .listed .ensures)
+    ∙ listed-rows (c .before .before .args .self) (long (c .before .before))
+
+listed-requires : tie.Need-listed-requires Inv-loop μ-loop
+listed-requires c κs = search needs
+
+loop-holds : tie.Need-loop-holds Inv-loop μ-loop
+loop-holds c = (few c, omega arith, omega arith, refl, refl)
+
+mul-row : tie.Need-mul-row Inv-loop μ-loop
+mul-row c = omega arith
+
+array-copy-out-row : tie.Need-array-copy-out-row Inv-loop μ-loop
+array-copy-out-row c = omega arith
+
+deviations-requires : tie.Need-deviations-requires Inv-loop μ-loop
+deviations-requires c κs = search needs
+
+offset-value-requires : tie.Need-offset-value-requires Inv-loop μ-loop
+offset-value-requires c κs = search needs
+
+enum-told : tie.Need-enum-told Inv-loop μ-loop
+enum-told c = search needs
+
+enum-known-value : tie.Need-enum-known-value Inv-loop μ-loop
+enum-known-value c = search needs
+
+mul-numbers : tie.Need-mul-numbers Inv-loop μ-loop
+mul-numbers c = omega arith
+
+array-set-from-numbers : tie.Need-array-set-from-numbers Inv-loop μ-loop
+array-set-from-numbers c = omega arith
+
+add-count : tie.Need-add-count Inv-loop μ-loop
+add-count c = omega arith
+
+add-i : tie.Need-add-i Inv-loop μ-loop
+add-i c = omega arith
+
+loop-less : tie.Need-loop-less Inv-loop μ-loop
+loop-less c = omega arith
+
+loop-again : tie.Need-loop-again Inv-loop μ-loop
+loop-again c =
+    let l = c .before .before .before .before .before .loop in
+    let n = c .before .before .before .before .before .before .listed .result in
+    let rows = c .before .before .before .before .before .before .before .before .args .self .rows in
+    let t : l .i < n = c .before .before .before .before .loop-test .taken in
+    let row = getD rows (l .i) (blank (record { 0 = 0 })) in
+    let later = drop (suc (l .i)) (take n rows) in
+    let value : c .before .offset-value .result ≡ offsetValue (deviationsOf row) =
+    c .before .offset-value .ensures ∙ ap offsetValue (c .before .before .deviations .ensures) in
+    let g : Gathered (λ (row : Row). offsetValue (deviationsOf row)) (l .numbers) (l .count) (take n rows) (row ∷ later) =
+    rw (rest (blank (record { 0 = 0 })) rows (l .i) n t (in-rows (c .before .before .before .before .before .before))) at (l .inv .4) in
+    came (c .match .came)
+    (λ w. (
+      l .inv .0,
+      omega arith,
+      omega arith,
+      rw (w .2) (l .inv .3),
+      rw (w .2, w .3, add-one)
+          (gather-none (λ (row : Row). offsetValue (deviationsOf row)) (l .numbers) (l .count) (take n rows) row later g
+          (sym value ∙ w .1 .given .1)),
+    ))
+    (λ w.
+    let f : SFits w32 (w .1 .given .0 .0 .0) = search needs in
+    let room : l .count < length (l .numbers) = omega arith in (
+      l .inv .0,
+      omega arith,
+      omega arith,
+      rw (w .4) (length-set (l .numbers) (l .count) _ ∙ l .inv .3),
+      rw (w .4, w .5, add-one, add-one, toZ-ofZ f)
+          (gather-one (λ (row : Row). offsetValue (deviationsOf row)) (l .numbers) (l .count) (take n rows) row later (w .1 .given .0 .0) room g
+          (sym value ∙ w .1 .given .1)),
+    ))
+
+returns : tie.Need-returns Inv-loop μ-loop
+returns c =
+    let l = c .before .loop in
+    let n = c .before .before .listed .result in
+    let s = c .before .before .before .before .args .self in
+    let g : Gathered (λ (row : Row). offsetValue (deviationsOf row)) (l .numbers) (l .count) (take n (s .rows)) [] =
+    rw (rest-end (s .rows) (l .i) n (c .loop-test .left) (in-rows (c .before .before))) at (l .inv .4) in
+    let few-counted : l .count ≤ mostIds = omega arith in
+    rw (le-leb (l .count) mostIds few-counted)
+    (gather-end (λ (row : Row). offsetValue (deviationsOf row)) (l .numbers) (l .count) (take n (s .rows)) g
+    ∙ ap offsetValues (are-listed (c .before .before)))
+
+pub offset-values-spec : {M : Type 1} → statement M
+offset-values-spec =
+    tie.close
+    (tie.spec
+    Inv-loop
+    μ-loop
+    listed-requires
+    loop-holds
+    mul-row
+    array-copy-out-row
+    deviations-requires
+    offset-value-requires
+    enum-told
+    enum-known-value
+    mul-numbers
+    array-set-from-numbers
+    add-count
+    add-i
+    loop-less
+    loop-again
+    returns)

@@ -1,0 +1,66 @@
+use borrow.Author.Needs.{needs}
+use Rattle.sync_list.proofs.list.SyncList.row_of.Statement.{statement}
+use Rattle.sync_list.proofs.list.SyncList.row_of.Tie as tie
+use Rattle.sync_list.proofs.list.SyncList.row_of.Reads as reads
+use Rattle.sync_list.proofs.list.SyncList.row_of.Lts as lts
+use Rattle.sync_list.proofs.list.SyncList.listed.Reads as listed-reads
+use Rattle.sync_list.proofs.list.SyncList.place.Reads as place-reads
+use Rattle.sync_list.proofs.row.Row.blank.Reads as blank-reads
+use mathlib.Core.Path.{_≡_, refl, sym, ap, _∙_}
+use lib.ListN.{length}
+use Rattle.numbers.proofs.Walk.{length-of-mapped}
+use Rattle.sync_list.specs.Lists.{rowCount}
+use Prim.Native.Nat.{_<_}
+use native.Mathlib.Omega.{arith}
+use Rattle.sync_list.specs.Lists.{listedCount}
+use Rattle.sync_list.proofs.ListLaws.{listed-few, row-there, row-absent}
+
+long : (c : tie.Start) → length (c .args .self .rows) ≡ rowCount
+long c = search (needs, length-of-mapped)
+
+in-rows : (c : tie.Then1) → c .before .before .place .result < rowCount
+in-rows c =
+    let s = c .before .before .before .before in
+    let few = listed-few (s .args .self) (long s) in
+    let h : c .before .before .place .result < listedCount (s .args .self) = rw (c .before .listed .ensures) at (c .if1 .taken) in
+    omega arith
+
+place-requires : tie.Need-place-requires
+place-requires c κs = search needs
+
+listed-requires : tie.Need-listed-requires
+listed-requires c κs = search needs
+
+mul-result : tie.Need-mul-result
+mul-result c = let h = in-rows c in omega arith
+
+array-copy-out-result : tie.Need-array-copy-out-result
+array-copy-out-result c = in-rows c
+
+returns : tie.Need-returns
+returns c =
+    let s = c .before .before .before .before .before in
+    row-there (s .args .self) (long s) (s .args .id) (c .before .before .before .place .result) (c .before .before .before .place .ensures)
+    (rw (c .before .before .listed .ensures) at (c .before .if1 .taken))
+
+blank-requires : tie.Need-blank-requires
+blank-requires c κs = search needs
+
+returns-2 : tie.Need-returns-2
+returns-2 c =
+    let s = c .before .before .before .before .before in
+    c .blank .ensures
+    ∙ row-absent (s .args .self) (long s) (s .args .id) (c .before .before .before .place .result) (c .before .before .before .place .ensures)
+    (rw (c .before .before .listed .ensures) at (c .before .if1 .left))
+
+pub row-of-spec : {M : Type 1} → statement M
+row-of-spec =
+    tie.close
+    (tie.spec
+    place-requires
+    listed-requires
+    mul-result
+    array-copy-out-result
+    returns
+    blank-requires
+    returns-2)

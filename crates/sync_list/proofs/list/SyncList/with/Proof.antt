@@ -1,0 +1,88 @@
+use borrow.Author.Needs.{needs}
+use Rattle.sync_list.proofs.list.SyncList.with.Statement.{statement}
+use Rattle.sync_list.proofs.list.SyncList.with.Tie as tie
+use Rattle.sync_list.proofs.list.SyncList.with.Reads as reads
+use Rattle.sync_list.proofs.list.SyncList.with.Lts as lts
+use Rattle.sync_list.proofs.list.SyncList.listed.Reads as listed-reads
+use Rattle.sync_list.proofs.list.SyncList.place.Reads as place-reads
+use Rattle.sync_list.proofs.list.SyncList.row_of.Reads as row-of-reads
+use Rattle.sync_list.proofs.row.Row.with.Reads as with-reads
+use mathlib.Core.Path.{_≡_, refl, sym, ap, _∙_}
+use lib.ListN.{length}
+use Rattle.numbers.proofs.Walk.{length-of-mapped}
+use Rattle.sync_list.specs.Lists.{rowCount}
+use mathlib.Core.Bool.{true, false}
+use borrow.Author.Tests.{lt-leb, le-leb}
+use lib.Dec.{leb}
+use native.Mathlib.Numerals.{add-one}
+use Rattle.sync_list.specs.declared.row.Row.{Row}
+use Rattle.sync_list.specs.Lists.{listed, placeOf, rowIn}
+use Rattle.sync_list.specs.Rows.{withMeasured}
+use Rattle.sync_list.proofs.ListLaws.{is-listed, not-listed, recorded-known, recorded-new}
+
+long : (c : tie.Start) → length (c .args .self .rows) ≡ rowCount
+long c = search (needs, length-of-mapped)
+
+new-row : (c : tie.After-with)
+    → c .with .result
+    ≡ withMeasured (c .before .before .before .before .args .channel) (c .before .before .before .before .args .measurement)
+    (rowIn (c .before .before .before .before .args .id) (listed (c .before .before .before .before .args .self)))
+new-row c =
+    let a = c .before .before .before .before .args in
+    c .with .ensures ∙ ap (withMeasured (a .channel) (a .measurement)) (c .before .row-of .ensures)
+
+place-requires : tie.Need-place-requires
+place-requires c κs = search needs
+
+returns : tie.Need-returns
+returns c = rw (sym (c .before .place .ensures), le-leb _ _ (c .if1 .taken))
+
+row-of-requires : tie.Need-row-of-requires
+row-of-requires c κs = search needs
+
+with-requires : tie.Need-with-requires
+with-requires c κs = search needs
+
+mul-row : tie.Need-mul-row
+mul-row c = search needs
+
+element-set-from-row : tie.Need-element-set-from-row
+element-set-from-row c = search needs
+
+listed-requires : tie.Need-listed-requires
+listed-requires c κs = search needs
+
+returns-2 : tie.Need-returns-2
+returns-2 c =
+    let s = c .before .before .before .before .before .before in
+    let p = c .before .before .before .before .before .place in
+    let here = is-listed (s .args .self) (long s) (s .args .id) (p .result) (p .ensures) (rw (c .before .listed .ensures) at (c .if2 .taken)) in
+    recorded-known (s .args .self) (long s) (s .args .id) (s .args .channel) (s .args .measurement) (p .result) (c .before .before .with .result)
+    (p .ensures) (new-row (c .before .before)) (c .before .before .before .before .if1 .left) here
+
+add-next : tie.Need-add-next
+add-next c = search needs
+
+returns-3 : tie.Need-returns-3
+returns-3 c =
+    let s = c .before .before .before .before .before .before in
+    let p = c .before .before .before .before .before .place in
+    let new = not-listed (s .args .self) (long s) (s .args .id) (p .result) (p .ensures) (rw (c .before .listed .ensures) at (c .if2 .left)) in
+    rw add-one
+    (recorded-new (s .args .self) (long s) (s .args .id) (s .args .channel) (s .args .measurement) (p .result) (c .before .before .with .result)
+    (p .ensures) (new-row (c .before .before)) (c .before .before .before .before .if1 .left) new)
+
+pub with-spec : {M : Type 1} → statement M
+with-spec =
+    tie.close
+    (tie.spec
+    place-requires
+    returns
+    row-of-requires
+    with-requires
+    mul-row
+    element-set-from-row
+    listed-requires
+    returns-2
+    add-next
+    returns-3)

@@ -1,0 +1,4 @@
+pub mod Rows
+pub mod Lists
+pub mod Sound
+pub mod Values

@@ -1,0 +1,27 @@
+-- The values that the IDs of a list add to a midpoint (01, "Clock").
+use mathlib.Core.List.{List, [], _∷_, map}
+use lib.IntN.{ℤ}
+use Rattle.correction.specs.declared.value.Value.{Value}
+use Rattle.correction.specs.declared.value.Value.the-variants.{Absent, Is}
+use Rattle.correction.specs.Values.{offsetValue, rateValue}
+use Rattle.sync_list.specs.declared.row.Row.{Row}
+use Rattle.sync_list.specs.Rows.{deviationsOf}
+use Rattle.sync_list.specs.Lists.{rowIn}
+
+-- A value before others, where it is one.
+abbrev pub before : Value → List ℤ → List ℤ
+before Absent numbers = numbers
+before (Is x) numbers = x .0 ∷ numbers
+
+-- The numbers of those values that are there.
+unfoldable pub present : List Value → List ℤ
+present [] = []
+present (value ∷ values) = before value (present values)
+
+-- The offset value of each ID.
+abbrev pub offsetValues : List Row → List ℤ
+offsetValues rows = present (map (λ (row : Row). offsetValue (deviationsOf row)) rows)
+
+-- The rate value of each ID that was measured in the odd cycle, by what was measured of it in the even one.
+abbrev pub rateValues : (ℤ → ℤ) → List Row → List Row → List ℤ
+rateValues hold odd even = present (map (λ (row : Row). rateValue hold (deviationsOf row) (deviationsOf (rowIn (row .id) even))) odd)

@@ -1,0 +1,16 @@
+// The measurements of one cycle, by ID (document 01, "Clock"; the layout is ours). A row for each ID, with what was measured on A
+// and on B: then the number of rows is the number of different IDs, and "once per channel" cannot be broken.
+//
+// For the clock: `SyncList` with `empty`, `has`, `is_full_for`, `with`, `is_sound`, `offset_values` and `rate_values`. Each takes
+// any list, also one whose count is above its rows.
+mod list;
+mod places;
+mod row;
+mod sound;
+mod values;
+
+pub use list::ROWS;
+pub use list::SyncList;
+pub use row::Measured;
+pub use row::Measurement;
+pub use row::Row;

@@ -1,0 +1,73 @@
+// The values that the IDs of a list add to a midpoint.
+ghost use mathlib.Core.Path.{_≡_};
+ghost use Prim.Native.Nat.{_≤_};
+ghost use lib.ListN.{take};
+ghost use Rattle.correction.specs.Microtick.{held};
+ghost use Rattle.correction.specs.Terms.{valuesIn};
+ghost use Rattle.sync_list.specs.Lists.{listed};
+ghost use Rattle.sync_list.specs.Values.{offsetValues, rateValues};
+use crate::list::SyncList;
+use crate::places;
+use crate::row::Row;
+use correction::Value;
+use correction::Values;
+
+impl SyncList {
+    // The offset value of each ID.
+    pub fn offset_values(self) -> Values
+        ensures { λ r. ⌜ valuesIn r ≡ offsetValues (listed self) ⌝ }
+    {
+        let rows = self.rows;
+        let listed = self.listed();
+        let mut numbers = [0i32; midpoint::MOST];
+        let mut count: usize = 0;
+        let mut i: usize = 0;
+        while i < listed {
+            let row = rows[i];
+            let value = correction::offset_value(row.deviations());
+            match value {
+                Value::Absent => {}
+                Value::Is(x) => {
+                    let number = x.0;
+                    numbers[count] = number;
+                    count += 1;
+                }
+            }
+            i += 1;
+        }
+        Values { numbers, count }
+    }
+
+    // The rate value of each ID of this list, which is the odd one, that has one by the even list.
+    pub fn rate_values(self, even: SyncList) -> Values
+        ensures { λ r. ⌜ valuesIn r ≡ rateValues held (listed self) (listed even) ⌝ }
+    {
+        let rows = self.rows;
+        let listed = self.listed();
+        let even_rows = even.rows;
+        let even_listed = even.listed();
+        let even_ids = places::ids_of(even_rows);
+        let mut numbers = [0i32; midpoint::MOST];
+        let mut count: usize = 0;
+        let mut i: usize = 0;
+        while i < listed {
+            let row = rows[i];
+            let place = places::place_from(&even_ids, 0, even_listed, row.id.0);
+            let mut even_row = Row::blank(row.id);
+            if place < even_listed {
+                even_row = even_rows[place];
+            }
+            let value = correction::rate_value(row.deviations(), even_row.deviations());
+            match value {
+                Value::Absent => {}
+                Value::Is(x) => {
+                    let number = x.0;
+                    numbers[count] = number;
+                    count += 1;
+                }
+            }
+            i += 1;
+        }
+        Values { numbers, count }
+    }
+}
