@@ -2,6 +2,7 @@
 
 mod borders;
 mod checksums;
+pub mod clock;
 mod damage;
 mod histories;
 mod listed;
@@ -18,12 +19,14 @@ mod writing;
 use crate::mixture;
 use crate::plan::{Expected, Plan};
 use crate::random::Random;
+use crate::script::Command;
 
 /// Fixed, so that the script is the same at every run.
 const SEED: u64 = 0x01_0019_0262;
 
 const RANDOM_COMMANDS: usize = 5000;
-const RANDOM_STRETCHES: usize = 200;
+const SLOT_STRETCHES: usize = 200;
+const CLOCK_STRETCHES: usize = 60;
 
 pub fn all() -> Plan {
     let mut random = Random::from_seed(SEED);
@@ -45,6 +48,9 @@ pub fn all() -> Plan {
     unlooked::add(&mut plan, &mut random);
     undisturbed::add(&mut plan, &mut random);
     add_slot_mixture(&mut plan, &mut random);
+    // Behind everything about slots: the first of these finds no clock loaded.
+    clock::add(&mut plan, &mut random);
+    add_clock_mixture(&mut plan, &mut random);
     plan
 }
 
@@ -55,9 +61,17 @@ fn add_mixture(plan: &mut Plan, random: &mut Random) {
 }
 
 fn add_slot_mixture(plan: &mut Plan, random: &mut Random) {
-    for _ in 0..RANDOM_STRETCHES {
-        for command in mixture::stretch(random) {
-            plan.add(command, Expected::Anything);
-        }
+    for _ in 0..SLOT_STRETCHES {
+        add_anything(plan, mixture::slot_stretch(random));
     }
+}
+
+fn add_clock_mixture(plan: &mut Plan, random: &mut Random) {
+    for _ in 0..CLOCK_STRETCHES {
+        add_anything(plan, mixture::clock_stretch(random));
+    }
+}
+
+fn add_anything(plan: &mut Plan, commands: Vec<Command>) {
+    commands.into_iter().for_each(|command| plan.add(command, Expected::Anything));
 }

@@ -1,7 +1,10 @@
 //! Small scripts for every kind of script error, each with the lines written by hand.
 
+mod clock;
+mod sizes;
+
 use crate::channel::Channel;
-use crate::script::{Command, Opening, Write, LIMIT};
+use crate::script::{Command, Opening, Write};
 use crate::settings::Settings;
 use crate::status_numbers::{HeaderNumbers, StatusNumbers};
 
@@ -12,8 +15,6 @@ pub struct Small {
 
 /// A frame that is accepted on channel A, from 01 "Numbers to check against".
 const FRAME: [u8; 8] = [0x20, 0x01, 0x01, 0xA7, 0xC0, 0xD0, 0x5E, 0xEA];
-
-const TOO_LARGE: [u16; 3] = [601, 1024, 65535];
 
 /// In range, and slot 1 is static with them.
 const SETTINGS: Settings = Settings { fields: [1, 2, 3, 4, 5, 6, 7, 8, 9, 0, 11], sends_sync: true };
@@ -32,20 +33,25 @@ const STATUS: StatusNumbers = StatusNumbers {
     header: HeaderNumbers { flags: 0b00100, id: 1, words: 0, checksum: 0x69F, cycle: 0 },
 };
 
-const STATUS_LINE: &str = "status 1 2 3 4 5 6 7 8 9 0 11 1 0 1 0 16 0 1 4 1 0 1695 0\n";
+/// Its line.
+const STATUS_SHOWN: &str = "status 1 2 3 4 5 6 7 8 9 0 11 1 0 1 0 16 0 1 4 1 0 1695 0\n";
 
-/// The line that shows the status of all zeros.
-const ZEROS: &str = "status 0 0 0 0 0 0 0 0 0 0 0 0 0 0 0 0 0 0 0 0 0 0 0\n";
+/// The lines of the states of all zeros.
+const ZERO_CLOCK: &str = "clock 0 0 0 0 0 0 0 0 0 0 0 0 0 0 0 0 0 EVEN 0 ODD 0\n";
+const ZERO_STATUS: &str = "status 0 0 0 0 0 0 0 0 0 0 0 0 0 0 0 0 0 0 0 0 0 0 0\n";
 
 pub fn all() -> Vec<Small> {
     let mut all = vec![small(&[], "")];
     all.extend(unknown_letters());
-    all.extend(later_letters());
+    all.extend(later_letter());
     all.extend(ends_inside());
-    all.extend(too_large());
-    all.extend(at_the_limit());
+    all.extend(clock::ends_inside());
+    all.extend(sizes::too_large());
+    all.extend(sizes::at_the_limit());
     all.extend(wrong_bytes());
+    all.extend(clock::wrong_switches());
     all.extend(no_errors());
+    all.extend(clock::no_errors());
     all.extend(after_good_ones());
     all
 }
@@ -54,25 +60,34 @@ fn small(script: &[u8], text: &str) -> Small {
     Small { script: script.to_vec(), text: text.to_string() }
 }
 
-/// One whole command of each letter with its line; behind them the status of all zeros is held again.
-fn good_ones() -> Vec<(Vec<u8>, &'static str)> {
+/// Both lines of a showing, the clock state being that of all zeros.
+fn shown(status: &str) -> String {
+    format!("{ZERO_CLOCK}{status}")
+}
+
+/// One whole command of each letter with its line; behind them both states of all zeros are held again.
+fn good_ones() -> Vec<(Vec<u8>, String)> {
     let write = Write { channel: 0, flags: 0b00100, id: 1, cycle: 0, payload: vec![], room: 9 };
-    let commands = [
-        (Command::checksum(0, b"123456789"), "checksum 0 7961021\n"),
-        (Command::read(0, &FRAME), "read 0 0 0 1 0 0 1 0 1695 0 -\n"),
-        (Command::Write(write), "write 0 8 200101a7c0d05eeaa5\n"),
-        (Command::OwnSending, "event 23\n"),
-        (Command::OpenSlot(OPENING), "slot 0 0\n"),
-        (Command::Boundary, "event 0\n"),
-        (Command::Arrived(FRAME.to_vec()), "event 0\n"),
-        (Command::Show, "status 1 2 3 4 5 6 7 8 9 0 11 1 0 1 0 20 0 1 4 1 0 1695 0\n"),
-        (Command::PutStatus(STATUS), "status put\n"),
-        (Command::OwnSending, "event 0\n"),
-        (Command::Show, "status 1 2 3 4 5 6 7 8 9 0 11 1 0 1 0 56 0 1 4 1 0 1695 0\n"),
-        (Command::OpenSlot(Opening { channel: 2, ..OPENING }), "slot 1 0\n"),
-        (Command::Show, ZEROS),
+    let line = |line: &str| line.to_string();
+    let mut commands = vec![
+        (Command::checksum(0, b"123456789"), line("checksum 0 7961021\n")),
+        (Command::read(0, &FRAME), line("read 0 0 0 1 0 0 1 0 1695 0 -\n")),
+        (Command::Write(write), line("write 0 8 200101a7c0d05eeaa5\n")),
+        (Command::OwnSending, line("event 23\n")),
+        (Command::OpenSlot(OPENING), line("slot 0 0\n")),
+        (Command::Boundary, line("event 0\n")),
+        (Command::Arrived(FRAME.to_vec()), line("event 0\n")),
+        (Command::Show, shown("status 1 2 3 4 5 6 7 8 9 0 11 1 0 1 0 20 0 1 4 1 0 1695 0\n")),
+        (Command::PutStatus(STATUS), line("status put\n")),
+        (Command::OwnSending, line("event 0\n")),
     ];
-    commands.map(|(command, line)| (bytes_of(&command), line)).into()
+    commands.extend(clock::good_ones());
+    commands.extend([
+        (Command::Show, shown("status 1 2 3 4 5 6 7 8 9 0 11 1 0 1 0 56 0 1 4 1 0 1695 0\n")),
+        (Command::OpenSlot(Opening { channel: 2, ..OPENING }), line("slot 1 0\n")),
+        (Command::Show, shown(ZERO_STATUS)),
+    ]);
+    commands.into_iter().map(|(command, line)| (bytes_of(&command), line)).collect()
 }
 
 fn bytes_of(command: &Command) -> Vec<u8> {
@@ -82,20 +97,19 @@ fn bytes_of(command: &Command) -> Vec<u8> {
 }
 
 fn unknown_letters() -> Vec<Small> {
-    let letters = b"\x00\n?frwsabxtd\xFF";
+    let letters = b"\x00\n?frwsabxtdlomckp\xFF";
     letters.iter().map(|letter| small(&[*letter], "script error at 0\n")).collect()
 }
 
-/// Letters that get their meaning later: alone, and before bytes that such a command may have, zeros and good commands.
-fn later_letters() -> Vec<Small> {
+/// A letter that gets its meaning later: alone, and before bytes that its command may have, zeros and good commands.
+fn later_letter() -> Vec<Small> {
     let sheet = &bytes_of(&Command::OpenSlot(OPENING))[1..46];
-    let mut all = Vec::new();
-    for letter in *b"LOMCKP" {
-        all.push(small(&[letter], "script error at 0\n"));
-        all.push(small(&[&[letter], sheet, &[0; 500], b"DD"].concat(), "script error at 0\n"));
-        all.push(small(&[b"D", &[letter][..], &[0; 500]].concat(), &format!("{ZEROS}script error at 1\n")));
-    }
-    all
+    let zeros = shown(ZERO_STATUS);
+    vec![
+        small(b"P", "script error at 0\n"),
+        small(&[b"P", sheet, &[0; 500], b"DD"].concat(), "script error at 0\n"),
+        small(&[b"DP", &[0; 500][..]].concat(), &format!("{zeros}script error at 1\n")),
+    ]
 }
 
 /// Every place at which a command can be cut off, from right behind the letter on.
@@ -120,43 +134,6 @@ fn ends_inside() -> Vec<Small> {
     all
 }
 
-/// Sizes and rooms above the limit, with and without bytes behind them.
-fn too_large() -> Vec<Small> {
-    const BEFORE_SIZE: [&[u8]; 4] = [b"F\x00", b"R\x01", b"W\x00\x04\x01\x00\x00", b"A"];
-    const BEFORE_ROOM: &[u8] = b"W\x00\x04\x01\x00\x00\x02\x00\x11\x22";
-    let mut all = Vec::new();
-    for number in TOO_LARGE {
-        for before in BEFORE_SIZE {
-            let script = [before, &number.to_le_bytes()].concat();
-            all.push(small(&script, "script error at 0\n"));
-        }
-        all.push(small(&[BEFORE_ROOM, &number.to_le_bytes()].concat(), "script error at 0\n"));
-    }
-    for before in BEFORE_SIZE {
-        let script = [before, &601u16.to_le_bytes(), &[0; 603]].concat();
-        all.push(small(&script, "script error at 0\n"));
-    }
-    // The bytes behind a room that is too large would be a good command.
-    let script = [BEFORE_ROOM, &601u16.to_le_bytes(), &good_ones()[0].0].concat();
-    all.push(small(&script, "script error at 0\n"));
-    all
-}
-
-/// The limit itself is no error, one byte missing below it is.
-fn at_the_limit() -> Vec<Small> {
-    let read = bytes_of(&Command::read(0, &[0; LIMIT]));
-    let arrived = bytes_of(&Command::Arrived(vec![0; LIMIT]));
-    let write = Write { channel: 0, flags: 1, id: 1, cycle: 0, payload: vec![], room: LIMIT };
-    let refused = format!("write 12 0 {}\n", "a5".repeat(LIMIT));
-    vec![
-        small(&read, "read 3 -\n"),
-        small(&read[..read.len() - 1], "script error at 0\n"),
-        small(&arrived, "event 23\n"),
-        small(&arrived[..arrived.len() - 1], "script error at 0\n"),
-        small(&bytes_of(&Command::Write(write)), &refused),
-    ]
-}
-
 /// Where a byte stands in its command, the letter at place 0.
 const SENDS_SYNC: usize = 45;
 const CHANNEL: usize = 46;
@@ -170,7 +147,7 @@ fn with_byte(command: &Command, place: usize, byte: u8, lines: &str) -> Small {
     let mut changed = bytes_of(command);
     changed[place] = byte;
     let put = bytes_of(&Command::PutStatus(STATUS));
-    small(&[&put[..], b"D", &changed, b"D"].concat(), &format!("status put\n{STATUS_LINE}{lines}"))
+    small(&[&put[..], b"D", &changed, b"D"].concat(), &format!("status put\n{}{lines}", shown(STATUS_SHOWN)))
 }
 
 /// Switches that are neither 0 nor 1, and reasons above 5.
@@ -190,17 +167,17 @@ fn wrong_bytes() -> Vec<Small> {
 fn no_errors() -> Vec<Small> {
     let (open, put) = (Command::OpenSlot(OPENING), Command::PutStatus(STATUS));
     let mut all: Vec<Small> =
-        [2, 255].map(|byte| with_byte(&open, CHANNEL, byte, &format!("slot 1 0\n{ZEROS}"))).into();
-    let same = format!("status put\n{STATUS_LINE}");
+        [2, 255].map(|byte| with_byte(&open, CHANNEL, byte, &format!("slot 1 0\n{}", shown(ZERO_STATUS)))).into();
+    let same = format!("status put\n{}", shown(STATUS_SHOWN));
     all.push(with_byte(&put, MARKS, 0b1101_0000, &same));
     all.push(with_byte(&put, FLAGS, 0b1110_0100, &same));
-    let last_reason = "status put\nstatus 1 2 3 4 5 6 7 8 9 0 11 1 0 1 0 16 5 1 4 1 0 1695 0\n";
-    all.push(with_byte(&put, REASON, 5, last_reason));
+    let last_reason = shown("status 1 2 3 4 5 6 7 8 9 0 11 1 0 1 0 16 5 1 4 1 0 1695 0\n");
+    all.push(with_byte(&put, REASON, 5, &format!("status put\n{last_reason}")));
     all
 }
 
 fn after_good_ones() -> Vec<Small> {
-    const BROKEN: [&[u8]; 11] = [
+    const BROKEN: [&[u8]; 16] = [
         b"?",
         b"F",
         b"R\x00\x08",
@@ -212,6 +189,11 @@ fn after_good_ones() -> Vec<Small> {
         b"S\x01\x00\x00\x00",
         b"A\x59\x02",
         b"T\x01\x00\x00\x00",
+        b"L\x01\x00\x00\x00",
+        b"O",
+        b"M\x01\x00\x00\x00\x02\x00\x00",
+        b"C\x01",
+        b"K\x01\x00\x00\x00",
     ];
     let good = good_ones();
     let mut all: Vec<Small> = BROKEN.iter().map(|broken| after(&good, broken)).collect();
@@ -222,10 +204,10 @@ fn after_good_ones() -> Vec<Small> {
     all
 }
 
-fn after(good: &[(Vec<u8>, &str)], broken: &[u8]) -> Small {
+fn after(good: &[(Vec<u8>, String)], broken: &[u8]) -> Small {
     let mut script: Vec<u8> = good.iter().flat_map(|(command, _)| command.clone()).collect();
     script.extend(broken);
-    let lines: String = good.iter().map(|(_, line)| *line).collect();
+    let lines: String = good.iter().map(|(_, line)| line.as_str()).collect();
     Small { script, text: format!("{lines}script error at {}\n", good.len()) }
 }
 

@@ -164,7 +164,7 @@ fn wrong_id(random: &mut Random) -> u16 {
     }
 }
 
-fn wrong_cycle(random: &mut Random) -> u8 {
+pub fn wrong_cycle(random: &mut Random) -> u8 {
     if random.coin() {
         return random.pick(&[HIGHEST_CYCLE + 1, 255]);
     }

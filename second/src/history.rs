@@ -133,7 +133,7 @@ pub fn put(plan: &mut Plan, numbers: &StatusNumbers) {
 }
 
 pub fn show(plan: &mut Plan, numbers: &StatusNumbers) {
-    plan.add(Command::Show, Expected::Line(numbers.looked_at().line()));
+    plan.add(Command::Show, Expected::Status(numbers.looked_at()));
 }
 
 /// Every event of the history, and the status after each.

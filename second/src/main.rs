@@ -1,9 +1,19 @@
-//! A second program for FlexRay frames and slots: works out what a replay script must give, and makes such scripts.
+//! A second program for FlexRay frames, slots and clock: works out what a replay script must give, and makes such scripts.
 
+mod answer;
 mod bits;
 mod cases;
 mod channel;
 mod checksum;
+mod clock;
+mod clock_faults;
+mod clock_history;
+mod clock_mixture;
+mod clock_note;
+mod clock_numbers;
+mod clock_scene;
+mod closing;
+mod correction;
 mod draft;
 mod errors;
 mod faults;
@@ -24,6 +34,7 @@ mod slot;
 mod slot_mixture;
 mod slot_note;
 mod status_numbers;
+mod sync_list;
 mod vectors;
 
 use std::error::Error;

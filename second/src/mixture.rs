@@ -4,6 +4,7 @@ use std::iter;
 
 use crate::bits;
 use crate::channel::Channel;
+use crate::clock_mixture;
 use crate::draft::{fair_words, foreign_channel, Draft};
 use crate::faults::{faulty_read, faulty_write, some_faults};
 use crate::frame::Indicators;
@@ -23,12 +24,32 @@ pub fn script(seed: u64, count: usize) -> Vec<u8> {
     script
 }
 
+/// What happens to one slot, or in some cycles.
+fn stretch(random: &mut Random) -> Vec<Command> {
+    if random.coin() {
+        return clock_stretch(random);
+    }
+    slot_stretch(random)
+}
+
 /// What happens to one slot, with as many frame commands strewn in, which leave the slot alone.
-pub fn stretch(random: &mut Random) -> Vec<Command> {
+pub fn slot_stretch(random: &mut Random) -> Vec<Command> {
     let mut commands = Vec::new();
     for command in slot_mixture::episode(random) {
         commands.push(command);
         while random.coin() {
+            commands.push(frame_command(random));
+        }
+    }
+    commands
+}
+
+/// Cycles of a clock, with a few commands strewn in that leave it alone.
+pub fn clock_stretch(random: &mut Random) -> Vec<Command> {
+    let mut commands = Vec::new();
+    for command in clock_mixture::episode(random) {
+        commands.push(command);
+        if random.one_in(16) {
             commands.push(frame_command(random));
         }
     }

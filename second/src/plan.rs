@@ -1,9 +1,12 @@
 //! The commands of a script together with what the rules say must come of them.
 
+use crate::answer::Answer;
+use crate::clock_note::ClockNote;
+use crate::clock_numbers::ClockNumbers;
 use crate::refusal::Refusal;
-use crate::replay::Answer;
 use crate::script::Command;
 use crate::slot_note::SlotNote;
+use crate::status_numbers::StatusNumbers;
 
 /// What must come of a command: what its case demands, or in a round trip what the command before it gave.
 #[derive(Clone, Debug)]
@@ -13,6 +16,10 @@ pub enum Expected {
     Refused(Refusal),
     SomeRefusal,
     Line(String),
+    /// A showing of this status, whatever the clock state.
+    Status(StatusNumbers),
+    /// A showing of this clock state, whatever the status.
+    Clock(Box<ClockNumbers>),
 }
 
 impl Expected {
@@ -32,6 +39,8 @@ impl Expected {
             Expected::Refused(refusal) => answer.refusal() == Some(*refusal),
             Expected::SomeRefusal => answer.refusal().is_some(),
             Expected::Line(line) => answer.line() == *line,
+            Expected::Status(numbers) => matches!(answer, Answer::Shown(_, shown) if shown == numbers),
+            Expected::Clock(numbers) => matches!(answer, Answer::Shown(shown, _) if shown == numbers),
         }
     }
 }
@@ -52,6 +61,7 @@ pub enum Note {
     /// Two causes of the entry with this letter stood together; the first is the answer.
     Coincidence(char, Refusal, Refusal),
     Slot(SlotNote),
+    Clock(ClockNote),
 }
 
 #[derive(Clone, Debug)]
@@ -90,8 +100,16 @@ impl Plan {
 
     /// One more note for the command added last.
     pub fn note_last(&mut self, note: SlotNote) {
+        self.note(Note::Slot(note));
+    }
+
+    pub fn note_clock(&mut self, note: ClockNote) {
+        self.note(Note::Clock(note));
+    }
+
+    fn note(&mut self, note: Note) {
         let last = self.entries.last_mut().expect("a command was added");
-        last.notes.push(Note::Slot(note));
+        last.notes.push(note);
     }
 
     /// A command with the named causes, noting which ones stood behind the first.

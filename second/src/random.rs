@@ -39,6 +39,12 @@ impl Random {
         (0..size).map(|_| self.below(256) as u8).collect()
     }
 
+    pub fn shuffle<T>(&mut self, members: &mut [T]) {
+        for last in (1..members.len()).rev() {
+            members.swap(last, self.below(last + 1));
+        }
+    }
+
     pub fn pick<T: Copy>(&mut self, from: &[T]) -> T {
         from[self.below(from.len())]
     }

@@ -1,15 +1,20 @@
 //! Counts what a script reached, and names what it should have reached and did not.
 
+mod clock;
+mod clock_required;
+mod frames;
 mod slots;
 
 use std::collections::{BTreeMap, BTreeSet};
 
+use crate::answer::Answer;
 use crate::channel::Channel;
-use crate::frame::{Fields, Indicators, HIGHEST_CYCLE, HIGHEST_ID, LARGEST_FRAME, SMALLEST_FRAME};
 use crate::plan::{Note, Plan};
-use crate::refusal::{Refusal, READ_ORDER, WRITE_ORDER};
-use crate::replay::{Answer, Outcome};
-use crate::script::{Command, OnChannel, Write, LIMIT};
+use crate::refusal::Refusal;
+use crate::replay::Outcome;
+use crate::script::Command;
+
+pub use clock::ClockReach;
 
 #[derive(Clone, Copy, Debug, PartialEq, Eq, PartialOrd, Ord)]
 pub enum Reach {
@@ -46,8 +51,12 @@ pub enum Reach {
     CycleNotOpened(u8),
     /// Marks shown where nothing but events followed an opening.
     MarksFromOpening(Channel, u8),
-    /// Letter and number of an answer about a frame, after which the status that was held is shown, and has marks.
+    /// Letter and number of an answer that isn't about a slot, after which the status that was held is shown, and has marks.
     StatusStayed(char, u8),
+    /// Letter and number of an answer that isn't about the clock, after which the state that was held is shown, and lists
+    /// something.
+    ClockStayed(char, u8),
+    Clock(ClockReach),
     Noted(Note),
     ScriptError,
 }
@@ -57,8 +66,10 @@ pub struct Reached {
     counts: BTreeMap<Reach, usize>,
     /// The status held comes from an opening, and was not put.
     from_opening: bool,
-    /// Letters and numbers of the answers about frames since the last command that can change the status.
-    about_frames: BTreeSet<(char, u8)>,
+    /// Letters and numbers of the answers since the last command that can change the status.
+    beside_status: BTreeSet<(char, u8)>,
+    /// The same for the clock state.
+    beside_clock: BTreeSet<(char, u8)>,
 }
 
 impl Reached {
@@ -79,7 +90,7 @@ impl Reached {
 
     /// How often each entry gave each number, one line per entry.
     pub fn summary(&self) -> String {
-        ['F', 'R', 'W', 'S', 'A', 'B', 'X', 'T', 'D'].map(|letter| self.summary_of(letter)).join("\n")
+        "FRWSABXTLOMCKD".chars().map(|letter| self.summary_of(letter)).collect::<Vec<String>>().join("\n")
     }
 
     fn summary_of(&self, letter: char) -> String {
@@ -100,152 +111,31 @@ impl Reached {
         };
         self.add(Reach::Answer(command.letter(), answer.number()));
         self.follow_status(command, answer);
+        self.follow_clock(command, answer);
         match command {
             Command::Checksum(given) => self.add_channel('F', given.channel),
             Command::Read(given) => self.add_read(given, answer),
             Command::Write(write) => self.add_write(write, answer.refusal()),
             Command::OpenSlot(opening) => self.add_opening(opening, answer),
             Command::PutStatus(_) => self.add_put(),
-            Command::Show | Command::Arrived(_) | Command::Boundary | Command::OwnSending => (),
+            Command::Load(settings) => self.add_load(settings, answer),
+            Command::OpenCycle(cycle) => self.add_open_cycle(*cycle, answer),
+            Command::Measure(times) => self.add_measure(times, answer),
+            Command::CloseCycle(controls) => self.add_close(*controls, answer),
+            _ => (),
         }
-        if let Answer::Shown(numbers) = answer {
-            self.add_shown(numbers);
-        }
-    }
-
-    fn add_channel(&mut self, letter: char, channel: u8) {
-        if channel > 1 {
-            self.add(Reach::ForeignChannel(letter, channel));
-        }
-    }
-
-    fn add_read(&mut self, given: &OnChannel, answer: &Answer) {
-        self.add_channel('R', given.channel);
-        self.add(Reach::SizeRead(given.bytes.len()));
-        if let Answer::Read(Ok(fields), _) = answer {
-            self.add_accepted(given, fields);
-        }
-        if answer.refusal() == Some(Refusal::StartupWithoutSync) {
-            self.add(Reach::AllIndicatorsRefused(leading_flags(given)));
+        if let Answer::Shown(clock, status) = answer {
+            self.add_shown_clock(clock);
+            self.add_shown(status);
         }
     }
-
-    fn add_accepted(&mut self, given: &OnChannel, fields: &Fields) {
-        self.add(Reach::SizeAccepted(given.channel, given.bytes.len()));
-        for (place, bit) in fields.indicators.sent().into_iter().enumerate() {
-            self.add(Reach::IndicatorRead(place, bit));
-        }
-        self.add(Reach::AllIndicatorsRead(fields.indicators.flags()));
-        self.add(Reach::IdRead(fields.id));
-        self.add(Reach::CycleRead(fields.cycle));
-    }
-
-    fn add_write(&mut self, write: &Write, refusal: Option<Refusal>) {
-        self.add_channel('W', write.channel);
-        match refusal {
-            None => self.add_written(write),
-            Some(Refusal::IdGiven) => self.add(Reach::IdNotWritten(write.id)),
-            Some(Refusal::PayloadToWrite) => self.add(Reach::PayloadNotWritten(write.payload.len())),
-            Some(Refusal::Cycle) => self.add(Reach::CycleNotWritten(write.cycle)),
-            Some(Refusal::Output) => self.add_short_room(write),
-            Some(_) => (),
-        }
-    }
-
-    fn add_written(&mut self, write: &Write) {
-        let size = SMALLEST_FRAME + write.payload.len();
-        self.add(Reach::SizeWritten(write.channel, size));
-        self.add(Reach::AllIndicatorsWritten(write.flags & 0b11111));
-        self.add(Reach::UnnamedFlagsWritten(write.flags >> 5));
-        self.add(Reach::IdWritten(write.id));
-        self.add(Reach::CycleWritten(write.cycle));
-        self.add(if write.room == size { Reach::RoomExact } else { Reach::RoomLarger });
-    }
-
-    fn add_short_room(&mut self, write: &Write) {
-        if write.room == 0 {
-            self.add(Reach::RoomZero);
-        }
-        if write.room + 1 == SMALLEST_FRAME + write.payload.len() {
-            self.add(Reach::RoomOneShort);
-        }
-    }
-}
-
-/// The first five bits of a frame, as flags: sending order from the lowest bit up.
-fn leading_flags(given: &OnChannel) -> u8 {
-    given.bytes[0].reverse_bits() & 0b11111
 }
 
 fn required() -> Vec<Reach> {
     let mut all = vec![Reach::ScriptError];
-    all.extend(required_answers());
-    all.extend(required_reads());
-    all.extend(required_writes());
-    all.extend(required_notes().into_iter().map(Reach::Noted));
+    all.extend(frames::required());
     all.extend(slots::required());
-    all
-}
-
-fn required_answers() -> Vec<Reach> {
-    let mut all = vec![Reach::Answer('F', 0), Reach::Answer('F', 1), Reach::Answer('R', 0), Reach::Answer('W', 0)];
-    all.extend(READ_ORDER.map(|refusal| Reach::Answer('R', refusal.number())));
-    all.extend(WRITE_ORDER.map(|refusal| Reach::Answer('W', refusal.number())));
-    for letter in ['F', 'R', 'W'] {
-        all.extend([2, 3, 128, 255].map(|channel| Reach::ForeignChannel(letter, channel)));
-    }
-    all
-}
-
-fn required_reads() -> Vec<Reach> {
-    let mut all: Vec<Reach> = (0..=LIMIT).map(Reach::SizeRead).collect();
-    all.extend(every_frame_size().map(|(channel, size)| Reach::SizeAccepted(channel, size)));
-    for place in 0..5 {
-        all.extend([false, true].map(|bit| Reach::IndicatorRead(place, bit)));
-    }
-    all.extend((0..32).map(|flags| match Indicators::from_flags(flags).startup_without_sync() {
-        true => Reach::AllIndicatorsRefused(flags),
-        false => Reach::AllIndicatorsRead(flags),
-    }));
-    all.extend((1..=HIGHEST_ID).map(Reach::IdRead));
-    all.extend((0..=HIGHEST_CYCLE).map(Reach::CycleRead));
-    all
-}
-
-fn required_writes() -> Vec<Reach> {
-    let mut all = vec![Reach::RoomExact, Reach::RoomLarger, Reach::RoomOneShort, Reach::RoomZero];
-    all.extend(every_frame_size().map(|(channel, size)| Reach::SizeWritten(channel, size)));
-    let taken = (0..32).map(Indicators::from_flags).filter(|bits| !bits.reserved && !bits.startup_without_sync());
-    all.extend(taken.map(|indicators| Reach::AllIndicatorsWritten(indicators.flags())));
-    all.extend((0..8).map(Reach::UnnamedFlagsWritten));
-    all.extend([1, HIGHEST_ID].map(Reach::IdWritten));
-    all.extend((0..=HIGHEST_CYCLE).map(Reach::CycleWritten));
-    all.extend([0, 2048, 65535].map(Reach::IdNotWritten));
-    all.extend([1, 253, 255, 256, 600].map(Reach::PayloadNotWritten));
-    all.extend([64, 255].map(Reach::CycleNotWritten));
-    all
-}
-
-fn every_frame_size() -> impl Iterator<Item = (u8, usize)> {
-    let sizes = (SMALLEST_FRAME..=LARGEST_FRAME).step_by(2);
-    sizes.flat_map(|size| Channel::BOTH.map(|channel| (channel.number(), size)))
-}
-
-fn required_notes() -> Vec<Note> {
-    let mut all = vec![
-        Note::SingleDamage,
-        Note::DoubleDamage,
-        Note::WrittenThenRead,
-        Note::WrittenThenReadOnOtherChannel,
-        Note::ReadThenWritten,
-        Note::ReadThenRefusedForReserved,
-        Note::CheckValue,
-        Note::HeaderOf01,
-    ];
-    all.extend((2..=24).map(Note::BurstDamage));
-    all.extend([0, 7, 8, 9, 262, 263, 264].map(Note::SizeOf01));
-    all.extend(coincidences('R', &READ_ORDER));
-    all.extend(coincidences('W', &WRITE_ORDER));
+    all.extend(clock_required::all());
     all
 }
 
@@ -259,7 +149,12 @@ fn coincidences(letter: char, order: &[Refusal]) -> Vec<Note> {
     all
 }
 
-/// Fewer than 8 bytes have no whole header and no trailer, so that besides 2 only their size can be a cause.
+/// Fewer than 8 bytes have no whole header and no trailer, so that besides 2 only their size can be a cause. An ID that
+/// was measured already is listed, so that there is a place for it.
 fn can_stand_together(first: Refusal, later: Refusal) -> bool {
-    first != Refusal::TooFewBytes || later == Refusal::Size
+    match (first, later) {
+        (Refusal::TooFewBytes, later) => later == Refusal::Size,
+        (Refusal::MeasuredAlready, Refusal::ListFull) => false,
+        _ => true,
+    }
 }

@@ -1,4 +1,4 @@
-//! The refusals of 01 "Refusal numbers" that frames and slots can meet.
+//! The refusals of 01 "Refusal numbers".
 
 #[derive(Clone, Copy, Debug, PartialEq, Eq, PartialOrd, Ord)]
 pub enum Refusal {
@@ -15,7 +15,15 @@ pub enum Refusal {
     Cycle = 11,
     ReservedToWrite = 12,
     Output = 13,
+    Time = 14,
+    ListFull = 15,
+    MeasuredAlready = 16,
     Setting = 17,
+    NoCycleOpen = 18,
+    CycleOpenAlready = 19,
+    NoSyncFrame = 20,
+    Control = 21,
+    OtherCycle = 22,
     NotSound = 23,
 }
 
@@ -45,6 +53,23 @@ pub const WRITE_ORDER: [Refusal; 7] = [
 /// 01 "Refusal numbers", order of opening a slot.
 pub const OPEN_SLOT_ORDER: [Refusal; 4] = [Refusal::Setting, Refusal::Channel, Refusal::IdGiven, Refusal::Cycle];
 
+/// 01 "Refusal numbers", order of opening a cycle.
+pub const OPEN_CYCLE_ORDER: [Refusal; 3] = [Refusal::NotSound, Refusal::Cycle, Refusal::CycleOpenAlready];
+
+/// 01 "Refusal numbers", order of measuring.
+pub const MEASURE_ORDER: [Refusal; 7] = [
+    Refusal::NotSound,
+    Refusal::NoCycleOpen,
+    Refusal::Time,
+    Refusal::NoSyncFrame,
+    Refusal::OtherCycle,
+    Refusal::MeasuredAlready,
+    Refusal::ListFull,
+];
+
+/// 01 "Refusal numbers", order of closing a cycle.
+pub const CLOSE_CYCLE_ORDER: [Refusal; 3] = [Refusal::NotSound, Refusal::NoCycleOpen, Refusal::Control];
+
 impl Refusal {
     pub fn number(self) -> u8 {
         self as u8
@@ -60,5 +85,8 @@ mod tests {
         assert_eq!(READ_ORDER.map(Refusal::number), [1, 2, 3, 4, 5, 6, 7, 8]);
         assert_eq!(WRITE_ORDER.map(Refusal::number), [1, 9, 10, 11, 7, 12, 13]);
         assert_eq!(OPEN_SLOT_ORDER.map(Refusal::number), [17, 1, 9, 11]);
+        assert_eq!(OPEN_CYCLE_ORDER.map(Refusal::number), [23, 11, 19]);
+        assert_eq!(MEASURE_ORDER.map(Refusal::number), [23, 18, 14, 20, 22, 16, 15]);
+        assert_eq!(CLOSE_CYCLE_ORDER.map(Refusal::number), [23, 18, 21]);
     }
 }

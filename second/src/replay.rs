@@ -1,116 +1,7 @@
 //! Plays a script and says, line by line, what was answered.
 
-use crate::frame::{self, Fields};
-use crate::refusal::Refusal;
-use crate::script::{Command, OnChannel, Opening, Rest, Write};
-use crate::slot::{self, Event, SlotStatus};
-use crate::status_numbers::StatusNumbers;
-
-/// What every byte of a lent output holds before a write.
-const UNTOUCHED: u8 = 0xA5;
-
-#[derive(Debug)]
-pub enum Answer {
-    Checksum(Result<u32, Refusal>),
-    Read(Result<Fields, Refusal>, Vec<u8>),
-    Write(Result<usize, Refusal>, Vec<u8>),
-    /// With the number of the first field out of range, or 0.
-    Opened(Result<(), Refusal>, usize),
-    Event(Result<(), Refusal>),
-    StatusPut,
-    Shown(StatusNumbers),
-}
-
-impl Answer {
-    /// The answer, with the status that comes back held from then on.
-    fn to(command: &Command, held: &mut SlotStatus) -> Answer {
-        match command {
-            Command::Checksum(given) => Answer::Checksum(frame::frame_checksum(given.channel, &given.bytes)),
-            Command::Read(given) => answer_to_read(given),
-            Command::Write(write) => answer_to_write(write),
-            Command::OpenSlot(opening) => answer_to_opening(opening, held),
-            Command::Arrived(bytes) => answer_to_event(&Event::Arrived(bytes), held),
-            Command::Boundary => answer_to_event(&Event::Boundary, held),
-            Command::OwnSending => answer_to_event(&Event::OwnSending, held),
-            Command::PutStatus(numbers) => answer_to_put(numbers, held),
-            Command::Show => Answer::Shown(StatusNumbers::of(held)),
-        }
-    }
-
-    pub fn refusal(&self) -> Option<Refusal> {
-        match self {
-            Answer::Checksum(answer) => answer.err(),
-            Answer::Read(answer, _) => answer.err(),
-            Answer::Write(answer, _) => answer.err(),
-            Answer::Opened(answer, _) | Answer::Event(answer) => answer.err(),
-            Answer::StatusPut | Answer::Shown(_) => None,
-        }
-    }
-
-    /// 0 for an answer, the refusal's number otherwise.
-    pub fn number(&self) -> u8 {
-        self.refusal().map_or(0, Refusal::number)
-    }
-
-    pub fn line(&self) -> String {
-        let number = self.number();
-        match self {
-            // 01 "Refusal numbers": any other number that comes back is 0.
-            Answer::Checksum(answer) => format!("checksum {number} {}", answer.unwrap_or(0)),
-            Answer::Read(Ok(fields), payload) => format!("read 0 {} {}", field_numbers(fields), hex(payload)),
-            Answer::Read(Err(_), payload) => format!("read {number} {}", hex(payload)),
-            Answer::Write(answer, output) => format!("write {number} {} {}", answer.unwrap_or(0), hex(output)),
-            Answer::Opened(_, field) => format!("slot {number} {field}"),
-            Answer::Event(_) => format!("event {number}"),
-            Answer::StatusPut => "status put".to_string(),
-            Answer::Shown(numbers) => numbers.line(),
-        }
-    }
-}
-
-fn answer_to_read(given: &OnChannel) -> Answer {
-    let answer = frame::read(given.channel, &given.bytes);
-    let payload = frame::payload(&answer, &given.bytes).to_vec();
-    Answer::Read(answer, payload)
-}
-
-fn answer_to_write(write: &Write) -> Answer {
-    let mut output = vec![UNTOUCHED; write.room];
-    let answer = frame::write(write.channel, &write.given(), &write.payload, &mut output);
-    Answer::Write(answer, output)
-}
-
-fn answer_to_opening(opening: &Opening, held: &mut SlotStatus) -> Answer {
-    let answer = slot::open(opening.settings, opening.channel, opening.slot, opening.cycle);
-    // A field out of range is the first cause of all, so that a field is told with 17 only.
-    let field = opening.settings.first_out_of_range().unwrap_or(0);
-    let told = answer.as_ref().map(|_| ()).map_err(|refusal| *refusal);
-    // 01 "Refusal numbers": no state was handed in, so that a refusal gives the one of all zeros.
-    *held = answer.unwrap_or_default();
-    Answer::Opened(told, field)
-}
-
-/// A refused event gives back the very status that was handed in.
-fn answer_to_event(event: &Event, held: &mut SlotStatus) -> Answer {
-    Answer::Event(held.after(event).map(|after| *held = after))
-}
-
-fn answer_to_put(numbers: &StatusNumbers, held: &mut SlotStatus) -> Answer {
-    *held = numbers.status();
-    Answer::StatusPut
-}
-
-fn field_numbers(fields: &Fields) -> String {
-    let indicators = fields.indicators.sent().map(|bit| u8::from(bit).to_string()).join(" ");
-    format!("{indicators} {} {} {} {}", fields.id, fields.words, fields.header_checksum, fields.cycle)
-}
-
-fn hex(bytes: &[u8]) -> String {
-    if bytes.is_empty() {
-        return "-".to_string();
-    }
-    bytes.iter().map(|byte| format!("{byte:02x}")).collect()
-}
+use crate::answer::{Answer, Held};
+use crate::script::{Command, Rest};
 
 /// What one place of a script came to.
 #[derive(Debug)]
@@ -131,14 +22,14 @@ impl Outcome {
 /// The outcomes of a script in their order; a script error is the last.
 pub struct Replay<'a> {
     rest: Rest<'a>,
-    held: SlotStatus,
+    held: Held,
     command: usize,
     broken: bool,
 }
 
 impl<'a> Replay<'a> {
     pub fn of(script: &'a [u8]) -> Replay<'a> {
-        Replay { rest: Rest::of(script), held: SlotStatus::default(), command: 0, broken: false }
+        Replay { rest: Rest::of(script), held: Held::default(), command: 0, broken: false }
     }
 }
 
@@ -203,27 +94,64 @@ mod tests {
         let events = b"DXDA\x08\x00\x20\x01\x01\xA7\xC0\x3B\xD0\x8FDBDA\x00\x00D";
         let script = [b"DX", &opening[..], events, &refused, b"D", &opening, &out_of_range, b"BD"].concat();
         let zeros = "status 0 0 0 0 0 0 0 0 0 0 0 0 0 0 0 0 0 0 0 0 0 0 0";
+        let zero_clock = "clock 0 0 0 0 0 0 0 0 0 0 0 0 0 0 0 0 0 EVEN 0 ODD 0";
         let lines = [
+            zero_clock,
             zeros,
             "event 23",
             "slot 0 0",
+            zero_clock,
             "status 0 0 0 2 0 0 0 0 0 0 2 1 1 1 0 0 0 0 0 0 0 0 0",
             "event 0",
+            zero_clock,
             "status 0 0 0 2 0 0 0 0 0 0 2 1 1 1 0 32 0 0 0 0 0 0 0",
             "event 0",
+            zero_clock,
             "status 0 0 0 2 0 0 0 0 0 0 2 1 1 1 0 56 0 1 4 1 0 1695 0",
             "event 0",
+            zero_clock,
             "status 0 0 0 2 0 0 0 0 0 0 2 1 1 1 0 60 0 1 4 1 0 1695 0",
             "event 0",
+            zero_clock,
             "status 0 0 0 2 0 0 0 0 0 0 2 1 1 1 0 61 0 1 4 1 0 1695 0",
             "slot 9 0",
+            zero_clock,
             zeros,
             "slot 0 0",
             "slot 17 4",
             "event 23",
+            zero_clock,
             zeros,
         ];
         assert_eq!(text(&script), lines.join("\n") + "\n");
+    }
+
+    #[test]
+    fn clock_lines_by_hand() {
+        let out_of_range = [b"L", &[0; 45][..]].concat();
+        let load = [b"L", &SHEET[..]].concat();
+        let times = b"M\x09\x00\x00\x00\x02\x00\x00\x00";
+        let script = [&load[..], b"DC\x00\x00O\x40O\x3FO\x00", times, b"C\x02\x00C\xFF\x01D", &out_of_range, b"O\x00D"];
+        let zeros = "status 0 0 0 0 0 0 0 0 0 0 0 0 0 0 0 0 0 0 0 0 0 0 0";
+        let lines = [
+            "load 0 0",
+            "clock 0 0 0 2 0 0 0 0 0 0 2 1 0 0 0 0 0 EVEN 0 ODD 0",
+            zeros,
+            "close 18 0 0 0 0 0 0 0",
+            "open 11",
+            "open 0",
+            "open 19",
+            "measure 23 0",
+            "close 21 0 0 0 0 0 0 0",
+            "close 0 0 0 1 1 0 0 0",
+            "clock 0 0 0 2 0 0 0 0 0 0 2 1 0 0 1 63 0 EVEN 0 ODD 0",
+            zeros,
+            "load 17 4",
+            "open 23",
+            "clock 0 0 0 0 0 0 0 0 0 0 0 0 0 0 0 0 0 EVEN 0 ODD 0",
+            zeros,
+        ];
+        assert_eq!(text(&script.concat()), lines.join("\n") + "\n");
     }
 
     #[test]

@@ -142,7 +142,7 @@ impl Scene {
 }
 
 /// Settings in range, the ends of the ranges more often than chance would have it.
-fn fair_settings(random: &mut Random) -> Settings {
+pub fn fair_settings(random: &mut Random) -> Settings {
     let fields = RANGES.map(|range| fair_value(random, &range));
     let settings = Settings { fields, sends_sync: random.coin() };
     // Few words as a rule, to keep scripts short.

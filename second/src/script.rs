@@ -1,15 +1,19 @@
-//! The script form of the commands: building it and taking it apart again.
+//! The commands of a script.
 
-use crate::channel::Channel;
+mod building;
+mod taking;
+
+use crate::clock::Times;
+use crate::clock_numbers::ClockNumbers;
+use crate::closing::Controls;
 use crate::frame::{Indicators, ToWrite};
-use crate::settings::{Settings, FIELDS};
-use crate::status_numbers::{HeaderNumbers, StatusNumbers};
+use crate::settings::Settings;
+use crate::status_numbers::StatusNumbers;
+
+pub use taking::Rest;
 
 /// The highest size or room that a script may name.
 pub const LIMIT: usize = 600;
-
-/// The highest content reason that a script may name.
-const LAST_REASON: u8 = 5;
 
 /// Bytes handed in on a channel given by its number.
 #[derive(Clone, Debug, PartialEq, Eq)]
@@ -53,6 +57,11 @@ pub enum Command {
     Boundary,
     OwnSending,
     PutStatus(StatusNumbers),
+    Load(Settings),
+    OpenCycle(u8),
+    Measure(Times),
+    CloseCycle(Controls),
+    PutClock(Box<ClockNumbers>),
     Show,
 }
 
@@ -65,6 +74,10 @@ impl Command {
         Command::Read(OnChannel { channel, bytes: bytes.to_vec() })
     }
 
+    pub fn put_clock(numbers: &ClockNumbers) -> Command {
+        Command::PutClock(Box::new(*numbers))
+    }
+
     pub fn letter(&self) -> char {
         match self {
             Command::Checksum(_) => 'F',
@@ -75,189 +88,22 @@ impl Command {
             Command::Boundary => 'B',
             Command::OwnSending => 'X',
             Command::PutStatus(_) => 'T',
+            Command::Load(_) => 'L',
+            Command::OpenCycle(_) => 'O',
+            Command::Measure(_) => 'M',
+            Command::CloseCycle(_) => 'C',
+            Command::PutClock(_) => 'K',
             Command::Show => 'D',
         }
-    }
-
-    /// Adds the command to the end of a script.
-    pub fn append_to(&self, script: &mut Vec<u8>) {
-        script.push(self.letter() as u8);
-        match self {
-            Command::Checksum(given) | Command::Read(given) => append_on_channel(script, given),
-            Command::Write(write) => append_write(script, write),
-            Command::OpenSlot(opening) => append_opening(script, opening),
-            Command::Arrived(bytes) => append_sized(script, bytes),
-            Command::PutStatus(numbers) => append_status(script, numbers),
-            Command::Boundary | Command::OwnSending | Command::Show => (),
-        }
-    }
-}
-
-fn append_on_channel(script: &mut Vec<u8>, given: &OnChannel) {
-    script.push(given.channel);
-    append_sized(script, &given.bytes);
-}
-
-fn append_write(script: &mut Vec<u8>, write: &Write) {
-    script.push(write.channel);
-    script.push(write.flags);
-    append_number(script, write.id);
-    script.push(write.cycle);
-    append_sized(script, &write.payload);
-    append_number(script, write.room as u16);
-}
-
-fn append_opening(script: &mut Vec<u8>, opening: &Opening) {
-    append_settings(script, &opening.settings);
-    script.push(opening.channel);
-    append_number(script, opening.slot);
-    script.push(opening.cycle);
-}
-
-fn append_status(script: &mut Vec<u8>, numbers: &StatusNumbers) {
-    append_settings(script, &numbers.settings);
-    script.push(numbers.channel.number());
-    append_number(script, numbers.slot);
-    script.extend([numbers.cycle, numbers.marks, numbers.reason, u8::from(numbers.kept), numbers.header.flags]);
-    append_number(script, numbers.header.id);
-    script.push(numbers.header.words);
-    append_number(script, numbers.header.checksum);
-    script.push(numbers.header.cycle);
-}
-
-fn append_settings(script: &mut Vec<u8>, settings: &Settings) {
-    script.extend(settings.fields.iter().flat_map(|value| value.to_le_bytes()));
-    script.push(u8::from(settings.sends_sync));
-}
-
-fn append_sized(script: &mut Vec<u8>, bytes: &[u8]) {
-    append_number(script, bytes.len() as u16);
-    script.extend(bytes);
-}
-
-fn append_number(script: &mut Vec<u8>, number: u16) {
-    script.extend(number.to_le_bytes());
-}
-
-/// The part of a script that is still to be played.
-pub struct Rest<'a> {
-    bytes: &'a [u8],
-}
-
-impl<'a> Rest<'a> {
-    pub fn of(script: &'a [u8]) -> Rest<'a> {
-        Rest { bytes: script }
-    }
-
-    pub fn is_empty(&self) -> bool {
-        self.bytes.is_empty()
-    }
-
-    /// The next command, or none where the script is broken there.
-    pub fn take_command(&mut self) -> Option<Command> {
-        match self.take_byte()? {
-            b'F' => Some(Command::Checksum(self.take_on_channel()?)),
-            b'R' => Some(Command::Read(self.take_on_channel()?)),
-            b'W' => Some(Command::Write(self.take_write()?)),
-            b'S' => Some(Command::OpenSlot(self.take_opening()?)),
-            b'A' => Some(Command::Arrived(self.take_sized()?)),
-            b'B' => Some(Command::Boundary),
-            b'X' => Some(Command::OwnSending),
-            b'T' => Some(Command::PutStatus(self.take_status()?)),
-            b'D' => Some(Command::Show),
-            _ => None,
-        }
-    }
-
-    fn take_on_channel(&mut self) -> Option<OnChannel> {
-        Some(OnChannel { channel: self.take_byte()?, bytes: self.take_sized()? })
-    }
-
-    fn take_write(&mut self) -> Option<Write> {
-        Some(Write {
-            channel: self.take_byte()?,
-            flags: self.take_byte()?,
-            id: self.take_number()?,
-            cycle: self.take_byte()?,
-            payload: self.take_sized()?,
-            room: self.take_size()?,
-        })
-    }
-
-    fn take_opening(&mut self) -> Option<Opening> {
-        Some(Opening {
-            settings: self.take_settings()?,
-            channel: self.take_byte()?,
-            slot: self.take_number()?,
-            cycle: self.take_byte()?,
-        })
-    }
-
-    fn take_status(&mut self) -> Option<StatusNumbers> {
-        Some(StatusNumbers {
-            settings: self.take_settings()?,
-            channel: if self.take_switch()? { Channel::B } else { Channel::A },
-            slot: self.take_number()?,
-            cycle: self.take_byte()?,
-            marks: self.take_byte()?,
-            reason: self.take_byte().filter(|reason| *reason <= LAST_REASON)?,
-            kept: self.take_switch()?,
-            header: self.take_header()?,
-        })
-    }
-
-    fn take_header(&mut self) -> Option<HeaderNumbers> {
-        Some(HeaderNumbers {
-            flags: self.take_byte()?,
-            id: self.take_number()?,
-            words: self.take_byte()?,
-            checksum: self.take_number()?,
-            cycle: self.take_byte()?,
-        })
-    }
-
-    fn take_settings(&mut self) -> Option<Settings> {
-        let mut fields = [0; FIELDS];
-        for field in &mut fields {
-            *field = u32::from(self.take_number()?) | u32::from(self.take_number()?) << 16;
-        }
-        Some(Settings { fields, sends_sync: self.take_switch()? })
-    }
-
-    fn take_switch(&mut self) -> Option<bool> {
-        match self.take_byte()? {
-            0 => Some(false),
-            1 => Some(true),
-            _ => None,
-        }
-    }
-
-    fn take_sized(&mut self) -> Option<Vec<u8>> {
-        let size = self.take_size()?;
-        let (bytes, rest) = self.bytes.split_at_checked(size)?;
-        self.bytes = rest;
-        Some(bytes.to_vec())
-    }
-
-    fn take_size(&mut self) -> Option<usize> {
-        let size = usize::from(self.take_number()?);
-        (size <= LIMIT).then_some(size)
-    }
-
-    fn take_number(&mut self) -> Option<u16> {
-        Some(u16::from_le_bytes([self.take_byte()?, self.take_byte()?]))
-    }
-
-    fn take_byte(&mut self) -> Option<u8> {
-        let (first, rest) = self.bytes.split_first()?;
-        self.bytes = rest;
-        Some(*first)
     }
 }
 
 #[cfg(test)]
 mod tests {
     use super::*;
+    use crate::channel::Channel;
+    use crate::clock_numbers::{ListNumbers, RowNumbers};
+    use crate::status_numbers::HeaderNumbers;
 
     #[test]
     fn write_command_by_hand() {
@@ -321,12 +167,59 @@ mod tests {
                 }
                 _ => (),
             }
-            let mut rest = Rest::of(&script);
-            assert_eq!(rest.take_command(), Some(command.clone()));
-            assert!(rest.is_empty());
-            let mut built = Vec::new();
-            command.append_to(&mut built);
-            assert_eq!(built, script);
+            assert_both_ways(&script, &command);
         }
+    }
+
+    #[test]
+    fn clock_commands_by_hand() {
+        let (sheet, settings) = settings_by_hand();
+        let times = Times { observed: 0x04030201, action_point: 0xFFFE0006 };
+        let commands = [
+            ([b"L", &sheet[..]].concat(), Command::Load(settings)),
+            (b"O\xFF".to_vec(), Command::OpenCycle(255)),
+            (b"M\x01\x02\x03\x04\x06\x00\xFE\xFF".to_vec(), Command::Measure(times)),
+            (b"C\x80\x01".to_vec(), Command::CloseCycle(Controls { offset: -128, rate: 1 })),
+            (clock_by_hand(&sheet), Command::put_clock(&clock_numbers(settings))),
+        ];
+        for (script, command) in commands {
+            assert_both_ways(&script, &command);
+        }
+        assert_eq!(clock_by_hand(&sheet).len(), 386);
+    }
+
+    /// Rows of the even list count from 1, those of the odd one from 0x11; all bytes of the last row are named.
+    fn clock_by_hand(sheet: &[u8]) -> Vec<u8> {
+        let mut script = [b"K", sheet, b"\x00\x41\x01\x42\xFE\xFF\xFF\xFF"].concat();
+        for (count, first) in [(0xFF, 1), (3, 0x11)] {
+            script.push(count);
+            for place in 0..14 {
+                script.extend([&[first + place, 0, 1, place], &[0; 7][..]].concat());
+            }
+            script.extend(b"\x21\x43\xFC\x04\x03\x02\x01\xFF\xFF\xFF\x7F");
+        }
+        script
+    }
+
+    fn clock_numbers(settings: Settings) -> ClockNumbers {
+        let list = |count, first| {
+            let last = RowNumbers { id: 0x4321, seen: 0xFC, deviations: [0x01020304, 0x7FFFFFFF] };
+            let mut rows = [last; 15];
+            for (place, row) in rows.iter_mut().enumerate().take(14) {
+                *row = RowNumbers { id: first + place as u16, seen: 1, deviations: [place as i32, 0] };
+            }
+            ListNumbers { count, rows }
+        };
+        let lists = [list(0xFF, 1), list(3, 0x11)];
+        ClockNumbers { settings, open: false, cycle: 0x41, closed: true, last: 0x42, rate: -2, lists }
+    }
+
+    fn assert_both_ways(script: &[u8], command: &Command) {
+        let mut rest = Rest::of(script);
+        assert_eq!(rest.take_command().as_ref(), Some(command));
+        assert!(rest.is_empty());
+        let mut built = Vec::new();
+        command.append_to(&mut built);
+        assert_eq!(built, script);
     }
 }

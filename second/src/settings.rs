@@ -4,6 +4,17 @@ use std::ops::RangeInclusive;
 
 pub const FIELDS: usize = 11;
 
+/// Fields 1 to 9, all of them about the clock.
+pub const DECODING_CORRECTION: usize = 1;
+pub const DELAY_A: usize = 2;
+pub const DELAY_B: usize = 3;
+pub const SYNC_ID_LIMIT: usize = 4;
+pub const OFFSET_LIMIT: usize = 5;
+pub const RATE_LIMIT: usize = 6;
+pub const DRIFT_DAMPING: usize = 7;
+pub const EXTERNAL_OFFSET_UNIT: usize = 8;
+pub const EXTERNAL_RATE_UNIT: usize = 9;
+
 /// Field 10: the words that every frame of a static slot has.
 pub const STATIC_WORDS: usize = 10;
 
@@ -20,6 +31,13 @@ pub fn ends(field: usize) -> (u32, u32) {
     (*range.start(), *range.end())
 }
 
+/// Values out of a field's range, those beside it and the highest of all, each with the end of the range that is nearest.
+pub fn beyond(field: usize) -> Vec<(u32, u32)> {
+    let (lowest, highest) = ends(field);
+    let below = lowest.checked_sub(1).map(|value| (value, lowest));
+    below.into_iter().chain([(highest + 1, highest), (u32::MAX, highest)]).collect()
+}
+
 #[derive(Clone, Copy, Debug, Default, PartialEq, Eq)]
 pub struct Settings {
     pub fields: [u32; FIELDS],
@@ -32,9 +50,20 @@ impl Settings {
         self.fields[number - 1]
     }
 
+    /// The same for a sum with a sign.
+    pub fn signed(&self, number: usize) -> i64 {
+        self.field(number).into()
+    }
+
     pub fn with_field(mut self, number: usize, value: u32) -> Settings {
         self.fields[number - 1] = value;
         self
+    }
+
+    /// The fields and the switch, as `D` shows them.
+    pub fn numbers(&self) -> String {
+        let fields = self.fields.map(|value| value.to_string()).join(" ");
+        format!("{fields} {}", u8::from(self.sends_sync))
     }
 
     /// The number of the first field that is out of its range, if one is.

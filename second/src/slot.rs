@@ -103,7 +103,7 @@ impl SlotStatus {
         }
     }
 
-    fn is_static(&self) -> bool {
+    pub fn is_static(&self) -> bool {
         u32::from(self.slot) <= self.settings.field(STATIC_SLOTS)
     }
 
@@ -114,7 +114,7 @@ impl SlotStatus {
     }
 
     /// 01 "Refusal numbers": what makes a slot status sound.
-    fn is_sound(&self) -> bool {
+    pub fn is_sound(&self) -> bool {
         self.would_open()
             && self.reason.is_some() == self.marks.has(Mark::ContentError)
             && self.kept.is_some() == self.marks.has(Mark::Valid)

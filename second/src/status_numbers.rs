@@ -92,16 +92,15 @@ impl StatusNumbers {
         StatusNumbers { marks: self.marks & NAMED_MARKS, header, ..*self }
     }
 
-    /// The line of `D`.
+    /// The second line of `D`.
     pub fn line(&self) -> String {
-        let fields = self.settings.fields.map(|value| value.to_string()).join(" ");
-        let opened = [u16::from(self.settings.sends_sync), self.channel.number().into(), self.slot, self.cycle.into()];
+        let opened = [self.channel.number().into(), self.slot, self.cycle.into()];
         let found = [self.marks, self.reason, u8::from(self.kept), self.header.flags].map(u16::from);
         let header = &self.header;
         let kept = [header.id, header.words.into(), header.checksum, header.cycle.into()];
-        let numbers = [opened, found, kept].concat();
+        let numbers = [&opened[..], &found, &kept].concat();
         let rest: Vec<String> = numbers.iter().map(u16::to_string).collect();
-        format!("status {fields} {}", rest.join(" "))
+        format!("status {} {}", self.settings.numbers(), rest.join(" "))
     }
 }
 

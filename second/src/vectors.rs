@@ -65,7 +65,8 @@ mod tests {
     #[test]
     fn the_listed_cases_hold_and_reach_everything() {
         let vectors = build().unwrap();
-        assert!(vectors.script.len() < 1_600_000);
+        assert!(vectors.script.len() < 2_400_000);
+        assert!(Replay::of(&vectors.script).count() < 64_000);
         assert!(vectors.text.len() < 3_000_000);
     }
 }

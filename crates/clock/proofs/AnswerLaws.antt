@@ -1,6 +1,6 @@
 -- Answers that are refusals say zeros.
 use mathlib.Core.Path.{_≡_, refl}
-use mathlib.Core.List.{List, [], _∷_}
+use mathlib.Core.List.{[], _∷_}
 use lib.IntN.{pos}
 use denote.Enum.Declared.{tagOf}
 use types.Run.{OneOf, miss}

@@ -1,16 +1,14 @@
 -- Every number that a sound clock state and accepted times make fits its type: nothing that is held is cut.
 use Prim.Native.Nat.{ℕ, _+_, _≤_, _<_, _^_}
-use mathlib.Core.Path.{_≡_, refl, sym, ap, _∙_}
-use mathlib.Core.Bool.{Bool, true, false, cond}
-use mathlib.Core.List.{List, [], _∷_, _++_}
+use mathlib.Core.Path.{_≡_, refl, ap, _∙_}
+use mathlib.Core.Bool.{Bool, true, false}
+use mathlib.Core.List.{List, [], _∷_}
 use native.Mathlib.Omega.{arith}
 use borrow.Author.Tests.{ltb-false, not-true}
 use lib.Dec.{lit<}
 use lib.IntN.{ℤ, pos, negℤ, _+ℤ_, _-ℤ_}
 use lib.Signed.{leZ, ltZ}
-use mir.Syntax.{w32}
-use mir.Val.{SFits}
-use Rattle.numbers.proofs.Signed.{signed, up, dn, up-neg, dn-neg, sub-sums, add-sum, le-sums, sums-le, sfits-by}
+use Rattle.numbers.proofs.Signed.{up-neg, dn-neg, sub-sums, add-sum, le-sums, sums-le, sfits-by}
 use Rattle.numbers.proofs.Truth.{both-true, true-both}
 use Rattle.numbers.proofs.Walk.{cases}
 use Rattle.midpoint.specs.Midpoint.{midpoint}
@@ -22,9 +20,7 @@ use Rattle.settings.specs.Sheet.{outOfRange, decodingCorrection, syncIdLimit, o
 use Rattle.slot.specs.declared.status.Status.{Status}
 use Rattle.correction.specs.declared.external.Control.{Control}
 use Rattle.correction.specs.declared.microtick.Microtick.{Microtick}
-use Rattle.correction.specs.declared.term.Term.{Term}
 use Rattle.correction.specs.Microtick.{timeLimit, aboveTimeLimit, lowestDeviation, highestDeviation, isDeviation, held, whole}
-use Rattle.correction.specs.Deviation.{deviation}
 use Rattle.correction.specs.Terms.{withOwn, isOutside, within, limited, damped, offsetTerm, rateTerm}
 use Rattle.correction.specs.External.{signOf, externalTerm, withExternal}
 use Rattle.correction.proofs.ControlLaws.{external-small}
@@ -34,10 +30,10 @@ use Rattle.sync_list.specs.Values.{offsetValues, rateValues}
 use Rattle.sync_list.proofs.RangeLaws.{spread, rates-held, rates-near}
 use Rattle.clock.specs.declared.state.Clock.{Clock}
 use Rattle.clock.specs.State.{isOdd, openCycle, listOf}
-use Rattle.clock.specs.Sound.{rateSound, sound}
+use Rattle.clock.specs.Sound.{sound}
 use Rattle.clock.specs.Measuring.{delayOn, deviationBy}
-use Rattle.clock.specs.Closing.{offsetFound, rateStored, rateFound}
-use Rattle.clock.proofs.SoundLaws.{Clauses, clauses, highest, at-most, rows-good, not-outside}
+use Rattle.clock.specs.Closing.{offsetFound, rateFound}
+use Rattle.clock.proofs.SoundLaws.{clauses, highest, at-most, rows-good, not-outside}
 
 -- ---- a deviation
 
@@ -81,7 +77,7 @@ near-within limit x =
     (λ u. rw (t, u) (omega (arith, up-neg (pos limit)), omega (arith, dn-neg (pos limit))))
     (λ u. rw (t, u) (not-outside limit x (rw (t, u)))))
 
-zero-near : (limit : ℕ) → Near limit (pos 0)
+pub zero-near : (limit : ℕ) → Near limit (pos 0)
 zero-near limit = (omega arith, omega arith)
 
 offset-near : (values : List ℤ) (sendsSync : Bool) (limit : ℕ) → Near limit (offsetTerm values sendsSync limit .value .0)
@@ -135,7 +131,7 @@ module _ (clock : Clock) (good : sound clock ≡ true) where
       ∙ rate-whole (rateValues whole (listed (clock .odd)) (listed (clock .even))) (s .«sends_sync») (clock .rate .0) (driftDamping s) (rateLimit s)
       (rates-near (listed (clock .even)) even (listed (clock .odd)) odd) stored-near (omega arith)
 
-  found-near : Near (rateLimit (clock .settings)) (rateFound clock .value .0)
+  pub found-near : Near (rateLimit (clock .settings)) (rateFound clock .value .0)
   found-near =
       let s = clock .settings in
       cases (isOdd (openCycle clock))

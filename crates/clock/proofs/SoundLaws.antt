@@ -1,16 +1,16 @@
 -- What a sound clock state gives: its clauses apart, and numbers that are small enough.
 use Prim.Native.Nat.{ℕ, zero, suc, _-_, _≤_, _<_}
-use mathlib.Core.Path.{_≡_, refl, sym, ap, _∙_}
-use mathlib.Core.Bool.{Bool, true, false, false≢true, not, _&&_, _||_, cond}
+use mathlib.Core.Path.{_≡_, ap}
+use mathlib.Core.Bool.{true, false, not}
 use mathlib.Core.List.{List, [], _∷_}
 use native.Mathlib.Omega.{arith}
-use borrow.Author.Tests.{leb-true, eqb-true, ltb-false, not-true, not-false}
+use borrow.Author.Tests.{leb-true, eqb-true, not-true, not-false}
 use lib.Dec.{leb, eqb}
 use lib.IntN.{ℤ, pos, negℤ}
 use lib.ListN.{getD, length}
 use lib.Signed.{ltZ}
-use Rattle.numbers.proofs.Signed.{up, dn, up-neg, dn-neg, one-sided, nlt-sums}
-use Rattle.numbers.proofs.Truth.{both-true}
+use Rattle.numbers.proofs.Signed.{up-neg, dn-neg, one-sided, nlt-sums, sums-nlt}
+use Rattle.numbers.proofs.Truth.{both-true, true-both, neither}
 use Rattle.numbers.proofs.Walk.{cases}
 use Rattle.midpoint.proofs.RangeLaws.{Near}
 use Rattle.settings.specs.declared.Range.{Range}
@@ -48,6 +48,14 @@ clauses c e =
       odd = h₅ .0;
       rate = h₅ .1;
     }
+
+pub sound-by : (c : Clock) → Clauses c → sound c ≡ true
+sound-by c k =
+    true-both (not (outOfRange (c .settings))) _ (ap not (k .settings))
+    (true-both (cycleSound (c .opened)) _ (k .opened)
+    (true-both (cycleSound (c .«last_closed»)) _ (k .last-closed)
+    (true-both (listSound (syncIdLimit (c .settings)) (c .even)) _ (k .even)
+    (true-both (listSound (syncIdLimit (c .settings)) (c .odd)) _ (k .odd) (k .rate)))))
 
 -- ---- a field of a sheet in range is at most its highest value
 
@@ -87,10 +95,6 @@ module _ (limit : ℕ) (l : SyncList) (e : listSound limit l ≡ true) where
 
 -- ---- a term that is not outside its limit
 
-neither : (a b : Bool) → a || b ≡ false → (a ≡ false) × (b ≡ false)
-neither false b e = (refl, e)
-neither true b e = absurd (false≢true (sym e))
-
 pub not-outside : (limit : ℕ) (x : ℤ) → isOutside limit x ≡ false → Near limit x
 not-outside limit x e =
     let h = neither (ltZ (pos limit) x) (ltZ x (negℤ (pos limit))) e in
@@ -98,3 +102,9 @@ not-outside limit x e =
     let low = nlt-sums x (negℤ (pos limit)) (h .1) in
     let side = one-sided x in
     (omega (arith, up-neg (pos limit), dn-neg (pos limit)), omega (arith, up-neg (pos limit), dn-neg (pos limit)))
+
+pub near-inside : (limit : ℕ) (x : ℤ) → Near limit x → isOutside limit x ≡ false
+near-inside limit x n =
+    let high : ltZ (pos limit) x ≡ false = sums-nlt (pos limit) x (omega (arith, n .0)) in
+    let low : ltZ x (negℤ (pos limit)) ≡ false = sums-nlt x (negℤ (pos limit)) (omega (arith, n .1, up-neg (pos limit), dn-neg (pos limit))) in
+    rw (high, low)

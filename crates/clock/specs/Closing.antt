@@ -1,11 +1,12 @@
 -- Closing a cycle: what it reports, and the clock state that comes back (01, "Clock").
 use Prim.Native.Nat.{ℕ}
 use mathlib.Core.Path.{_≡_}
-use mathlib.Core.Bool.{Bool, false, not, _||_, cond}
+use mathlib.Core.Bool.{false, not, _||_, cond}
 use mathlib.Core.List.{List, [], _∷_}
 use lib.IntN.{ℤ, pos}
 use Rattle.refusal.specs.Refusal.{Line, _when_, first, ifAccepted}
 use Rattle.settings.specs.Sheet.{offsetLimit, rateLimit, driftDamping, externalOffsetUnit, externalRateUnit}
+use Rattle.correction.specs.declared.microtick.SignedMicrotick.{SignedMicrotick}
 use Rattle.correction.specs.declared.term.Term.{Term}
 use Rattle.correction.specs.Microtick.{whole}
 use Rattle.correction.specs.Terms.{offsetTerm, rateTerm}
@@ -65,17 +66,21 @@ reportOf clock offsetControl rateControl =
       ids = listOf (openCycle clock) clock .count;
     }
 
--- "no cycle is open after it", and "the rate so found is stored".
-abbrev pub closedOn : Clock → Clock
-closedOn clock =
+-- "no cycle is open after it", with the rate that is stored.
+abbrev pub closedWith : Clock → SignedMicrotick → Clock
+closedWith clock rate =
     record {
       settings = clock .settings;
       even = clock .even;
       odd = clock .odd;
       opened = NoCycle;
       «last_closed» = Is (openCycle clock);
-      rate = rateFound clock .value;
+      rate = rate;
     }
+
+-- "the rate so found is stored": the external term is not in it.
+abbrev pub closedOn : Clock → Clock
+closedOn clock = closedWith clock (rateFound clock .value)
 
 -- All zeros, all flags clear: what stands beside a refusal.
 abbrev pub noReport : Report

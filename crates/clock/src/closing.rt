@@ -3,7 +3,7 @@ ghost use mathlib.Core.Path.{_≡_};
 ghost use mathlib.Core.Bool.{true};
 ghost use Rattle.correction.specs.External.{signOf};
 ghost use Rattle.clock.specs.Sound.{sound as Sound·sound};
-ghost use Rattle.clock.specs.Closing.{told, offsetFound, rateFound, reportOf, closedOn, CloseSays};
+ghost use Rattle.clock.specs.Closing.{told, offsetFound, rateFound, reportOf, closedWith, CloseSays};
 use crate::sound;
 use crate::state;
 use crate::state::Clock;
@@ -92,9 +92,12 @@ pub fn close_cycle(clock: Clock, offset_control: i32, rate_control: i32) -> Cycl
     let NamedControl::Is(rate) = Control::named(rate_control) else {
         return refused(Closing::NotAControl, clock);
     };
+    let found = rate_found(clock);
+    let report = report_of(clock, found, offset, rate);
+    let stored = found.value;
     CycleClosed {
-        answer: Closing::Closed(report_of(clock, offset, rate)),
-        clock: closed_on(clock),
+        answer: Closing::Closed(report),
+        clock: closed_with(clock, stored),
     }
 }
 
@@ -143,15 +146,14 @@ fn rate_found(clock: Clock) -> Term
     )
 }
 
-// The report, with the external term added to each term at last.
-fn report_of(clock: Clock, offset_control: Control, rate_control: Control) -> Report
-    requires { ⌜ Sound·sound clock ≡ true ⌝ }
+// The report, with the external term added to each term at last. The rate term is handed in: the rate that is stored is of it too.
+fn report_of(clock: Clock, rate: Term, offset_control: Control, rate_control: Control) -> Report
+    requires { ⌜ (Sound·sound clock ≡ true) × (rate ≡ rateFound clock) ⌝ }
     ensures { λ r. ⌜ r ≡ reportOf clock (signOf «offset_control») (signOf «rate_control») ⌝ }
 {
     let settings = clock.settings;
     let list = clock.list_of(clock.open_cycle());
     let offset = offset_found(clock);
-    let rate = rate_found(clock);
     let offset_value = offset.value;
     let rate_value = rate.value;
     let offset_reported = correction::with_external(
@@ -175,17 +177,14 @@ fn report_of(clock: Clock, offset_control: Control, rate_control: Control) -> Re
     }
 }
 
-// The state with the cycle closed. The rate that is stored is without the external term.
-fn closed_on(clock: Clock) -> Clock
-    requires { ⌜ Sound·sound clock ≡ true ⌝ }
-    ensures { λ r. ⌜ r ≡ closedOn clock ⌝ }
+// The state with the cycle closed, and with this stored rate.
+fn closed_with(clock: Clock, rate: SignedMicrotick) -> Clock
+    ensures { λ r. ⌜ r ≡ closedWith clock rate ⌝ }
 {
     let settings = clock.settings;
     let even = clock.even;
     let odd = clock.odd;
     let closed = clock.open_cycle();
-    let found = rate_found(clock);
-    let rate = found.value;
     Clock {
         settings,
         even,

@@ -3,7 +3,7 @@ use Prim.Native.Nat.{ℕ, zero, suc, _*_, _≤_}
 use mathlib.Core.Path.{_≡_, refl, sym, ap}
 use mathlib.Core.Bool.{Bool, true, false, false≢true}
 use native.Mathlib.Omega.{arith}
-use lib.IntN.{ℤ, pos, negsuc, negℤ, _-ℤ_}
+use lib.IntN.{ℤ, pos, negsuc, _-ℤ_}
 use Rattle.numbers.proofs.Signed.{signed, up, dn, sub-sums, up-neg, dn-neg}
 use Rattle.correction.specs.declared.external.Control.{Control}
 use Rattle.correction.specs.declared.external.Control.the-variants.{Less, Same, More}

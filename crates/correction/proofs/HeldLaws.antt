@@ -1,13 +1,12 @@
 -- What the signed type holds: a number that fits it as it is, 0 for any other.
-use Prim.Native.Nat.{ℕ, _≤_, _<_, _^_}
 use mathlib.Core.Path.{_≡_}
 use mathlib.Core.Bool.{true, false}
 use native.Mathlib.Omega.{arith}
-use lib.IntN.{ℤ, pos, negℤ}
+use lib.IntN.{ℤ, pos}
 use lib.Signed.{leZ, ltZ}
 use mir.Syntax.{w32}
 use mir.Val.{SFits}
-use Rattle.numbers.proofs.Signed.{signed, up-neg, dn-neg, up, dn, sfits-by, sfits-parts, sums-le, sums-nle, le-sums, lt-sums, nlt-sums}
+use Rattle.numbers.proofs.Signed.{sfits-by, sfits-parts, sums-le, sums-nle, lt-sums, nlt-sums}
 use Rattle.correction.specs.Microtick.{lowestHeld, highestHeld, held}
 
 module _ (z : ℤ) where

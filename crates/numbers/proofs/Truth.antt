@@ -20,6 +20,10 @@ true-left a b e = ap (λ (x : Bool). x || b) e
 pub true-right : (a b : Bool) → b ≡ true → a || b ≡ true
 true-right a b e = ap (_||_ a) e ∙ or-true a
 
+pub neither : (a b : Bool) → a || b ≡ false → (a ≡ false) × (b ≡ false)
+neither false b e = (refl, e)
+neither true b e = absurd (false≢true (sym e))
+
 -- each follows from the other
 pub same-true : (a b : Bool) → ((a ≡ true) ↔ (b ≡ true)) → a ≡ b
 same-true true b e = sym (e .0 refl)

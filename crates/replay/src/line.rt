@@ -19,10 +19,19 @@ pub fn put(line: &mut [u8; ROOM], at: usize, bytes: &[u8]) -> usize {
 
 // Puts a space and the number.
 pub fn decimal(line: &mut [u8; ROOM], at: usize, number: u64) -> usize {
-    let mut digits = [0u8; 20];
-    let count = io::decimal(number, &mut digits);
     let at = put_byte(line, at, b' ');
-    put(line, at, &digits[0..count])
+    put_digits(line, at, number)
+}
+
+// Puts a space and the number, with `-` before a negative one. (It is made wide first, since the lowest has no counterpart of its
+// own width.)
+pub fn signed(line: &mut [u8; ROOM], at: usize, number: i32) -> usize {
+    let wide = number as i64;
+    if wide < 0 {
+        let at = put(line, at, b" -");
+        return put_digits(line, at, (0 - wide) as u64);
+    }
+    decimal(line, at, wide as u64)
 }
 
 // Puts a space and the bytes in hex, or `-` where there are none.
@@ -44,6 +53,12 @@ pub fn end(line: &mut [u8; ROOM], at: usize) {
     let end = put_byte(line, at, b'\n');
     let whole = &line[..];
     io::write_all(STDOUT_FILENO, &whole[0..end]);
+}
+
+fn put_digits(line: &mut [u8; ROOM], at: usize, number: u64) -> usize {
+    let mut digits = [0u8; 20];
+    let count = io::decimal(number, &mut digits);
+    put(line, at, &digits[0..count])
 }
 
 fn put_two_digits(line: &mut [u8; ROOM], at: usize, byte: u8) -> usize {

@@ -1,39 +1,55 @@
 // Plays a script through the libraries and says, line by line, what each of them answered. Everything that decides stands in
 // the libraries; the program only takes the script apart and prints.
+mod clock_states;
+mod clocks;
 mod frames;
+mod held;
 mod line;
+mod lists;
 mod script;
 mod sheet;
 mod slots;
 mod statuses;
 mod turn;
 
+use held::Held;
 use script::Start;
-use slot::Status;
 use turn::Turn;
 
-// Plays the command with this letter, with the status that is held.
-fn play(letter: u8, status: Status) -> Turn {
+// Plays the command with this letter, with what is held.
+fn play(letter: u8, held: Held) -> Turn {
     match letter {
-        b'F' => on_frames(frames::frame_checksum(), status),
-        b'R' => on_frames(frames::read(), status),
-        b'W' => on_frames(frames::write(), status),
-        b'S' => slots::open_slot(status),
-        b'A' => slots::arrived(status),
-        b'B' => slots::boundary(status),
-        b'X' => slots::sent(status),
-        b'T' => statuses::put(status),
-        b'D' => statuses::show(status),
-        _ => Turn::script_error(status),
+        b'F' => on_frames(frames::frame_checksum(), held),
+        b'R' => on_frames(frames::read(), held),
+        b'W' => on_frames(frames::write(), held),
+        b'L' => clocks::load(held),
+        b'S' => slots::open_slot(held),
+        b'A' => slots::arrived(held),
+        b'B' => slots::boundary(held),
+        b'X' => slots::sent(held),
+        b'O' => clocks::open_cycle(held),
+        b'M' => clocks::measure(held),
+        b'C' => clocks::close_cycle(held),
+        b'K' => clock_states::put(held),
+        b'T' => statuses::put(held),
+        b'D' => show(held),
+        _ => Turn::script_error(held),
     }
 }
 
-// A command on frames leaves the status as it is.
-fn on_frames(is_played: bool, status: Status) -> Turn {
+// A command on frames leaves what is held as it is.
+fn on_frames(is_played: bool, held: Held) -> Turn {
     Turn {
         is_script_error: !is_played,
-        status,
+        held,
     }
+}
+
+// `D`. The clock's line stands before the status's.
+fn show(held: Held) -> Turn {
+    clock_states::show(held.clock);
+    statuses::show(held.status);
+    Turn::played(held)
 }
 
 // `script error at COMMAND`
@@ -46,19 +62,19 @@ fn script_error(command: u64) {
 
 // A proved loop has to end, and nothing says that a script does. So the count of commands has an end, which no run reaches.
 fn main() {
-    let mut status = Status::none();
+    let mut held = Held::none();
     let mut command = 0;
     while command < u64::MAX {
         let Start::Letter(letter) = script::take_letter() else {
             return;
         };
-        let turn = play(letter, status);
+        let turn = play(letter, held);
         if turn.is_script_error {
             script_error(command);
             return;
         }
-        let next = turn.status;
-        status = next;
+        let next = turn.held;
+        held = next;
         command += 1;
     }
 }

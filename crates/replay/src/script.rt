@@ -102,27 +102,25 @@ pub fn take_on_channel(space: &mut [u8]) -> OnChannel
     }
 }
 
-// A field of a settings sheet, four bytes, 0 where a script error stands in its place.
-pub struct Field {
+// A number of four bytes, 0 where a script error stands in its place.
+pub struct Long {
     pub is_script_error: bool,
     pub value: u32,
 }
 
-const NO_FIELD: Field = Field {
+const NO_LONG: Long = Long {
     is_script_error: true,
     value: 0,
 };
 
-pub fn take_field() -> Field {
+pub fn take_long() -> Long {
     let mut item = [0u8; 4];
     if !take(&mut item) {
-        return NO_FIELD;
+        return NO_LONG;
     }
-    let low = number(item[0], item[1]);
-    let high = number(item[2], item[3]);
-    Field {
+    Long {
         is_script_error: false,
-        value: high as u32 * 65536 + low as u32,
+        value: four_bytes(item[0], item[1], item[2], item[3]),
     }
 }
 
@@ -134,4 +132,28 @@ pub fn is_no_switch(byte: u8) -> bool {
 // The number that two bytes of the script make.
 pub fn number(low: u8, high: u8) -> u16 {
     high as u16 * 256 + low as u16
+}
+
+// The number that four bytes of the script make, the lowest first.
+pub fn four_bytes(first: u8, second: u8, third: u8, fourth: u8) -> u32 {
+    let low = number(first, second);
+    let high = number(third, fourth);
+    high as u32 * 65536 + low as u32
+}
+
+// The signed number with these bits. Where they are those of a negative one, all of them are turned over for the cast, and back
+// again behind it: a cast takes no number that it would change.
+pub fn signed(bits: u32) -> i32 {
+    if bits < 0x8000_0000 {
+        return bits as i32;
+    }
+    !(!bits as i32)
+}
+
+// The signed number with these eight bits, of which the first is carried on to 32.
+pub fn signed_byte(bits: u8) -> i32 {
+    if bits < 128 {
+        return bits as i32;
+    }
+    signed(bits as u32 + 0xFFFF_FF00)
 }

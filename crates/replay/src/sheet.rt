@@ -14,7 +14,7 @@ pub fn take() -> Sheet {
     let mut fields = [0u32; settings::FIELDS];
     let mut i = 0;
     while i < settings::FIELDS {
-        let field = script::take_field();
+        let field = script::take_long();
         if field.is_script_error {
             return script_error();
         }

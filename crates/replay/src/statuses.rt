@@ -1,5 +1,6 @@
 // A slot status in a script, and in a line.
 use crate::frames;
+use crate::held::Held;
 use crate::line;
 use crate::script;
 use crate::sheet;
@@ -14,30 +15,30 @@ use slot::Reason;
 use slot::Status;
 
 // `T`: settings, channel switch, slot, cycle, marks, reason, kept switch, and the kept frame's flags, ID, words, checksum and cycle.
-pub fn put(status: Status) -> Turn {
+pub fn put(held: Held) -> Turn {
     let taken = sheet::take();
     if taken.is_script_error {
-        return Turn::script_error(status);
+        return Turn::script_error(held);
     }
     // Slot, ID and checksum have two bytes.
     let mut item = [0u8; 14];
     if !script::take(&mut item) {
-        return Turn::script_error(status);
+        return Turn::script_error(held);
     }
     // The switch of a channel is its number.
     let Named::Is(channel) = Channel::named(item[0]) else {
-        return Turn::script_error(status);
+        return Turn::script_error(held);
     };
     if 5 < item[5] {
-        return Turn::script_error(status);
+        return Turn::script_error(held);
     }
     if script::is_no_switch(item[6]) {
-        return Turn::script_error(status);
+        return Turn::script_error(held);
     }
     let marks = item[4];
     let settings = taken.settings;
     answer_put();
-    Turn::played(Status {
+    Turn::played(held.with_status(Status {
         settings,
         channel,
         slot: Slot(script::number(item[1], item[2])),
@@ -50,7 +51,7 @@ pub fn put(status: Status) -> Turn {
         own_sending: marks / 32 % 2 == 1,
         reason: reason_of(item[5]),
         kept: kept_of(item),
-    })
+    }))
 }
 
 // `status put`
@@ -92,8 +93,8 @@ fn kept_of(item: [u8; 14]) -> Kept {
     })
 }
 
-// `D`. `status F1 .. F11 SENDS CHANNEL SLOT CYCLE MARKS REASON KEPT FLAGS ID WORDS CHECKSUM CYCLE`
-pub fn show(status: Status) -> Turn {
+// `status F1 .. F11 SENDS CHANNEL SLOT CYCLE MARKS REASON KEPT FLAGS ID WORDS CHECKSUM CYCLE`
+pub fn show(status: Status) {
     let channel = status.channel;
     let reason = status.reason;
     let kept = status.kept;
@@ -107,7 +108,6 @@ pub fn show(status: Status) -> Turn {
     let at = line::decimal(&mut line, at, number_of(reason));
     let at = put_kept(&mut line, at, kept);
     line::end(&mut line, at);
-    Turn::played(status)
 }
 
 fn number_of(reason: Reason) -> u64 {

@@ -1,24 +1,24 @@
-// What a command leaves: the status that is held from then on. (A struct, also for a script error: the prover covers no enum that
-// holds an array, and a status has one in its settings.)
-use slot::Status;
+// What a command leaves: what is held from then on. (A struct, also for a script error: the prover covers no enum that holds an
+// array, and both states have one in their settings.)
+use crate::held::Held;
 
 pub struct Turn {
     pub is_script_error: bool,
-    pub status: Status,
+    pub held: Held,
 }
 
 impl Turn {
-    pub fn played(status: Status) -> Turn {
+    pub fn played(held: Held) -> Turn {
         Turn {
             is_script_error: false,
-            status,
+            held,
         }
     }
 
-    pub fn script_error(status: Status) -> Turn {
+    pub fn script_error(held: Held) -> Turn {
         Turn {
             is_script_error: true,
-            status,
+            held,
         }
     }
 }

@@ -2,7 +2,7 @@
 use Prim.Native.Nat.{ℕ, zero, suc, _+_, _≤_}
 use mathlib.Core.Path.{_≡_, refl, ap}
 use mathlib.Core.Bool.{true, not, _||_}
-use mathlib.Core.List.{List, [], _∷_, map}
+use mathlib.Core.List.{List, [], _∷_}
 use native.Mathlib.Omega.{arith}
 use lib.IntN.{ℤ, _-ℤ_}
 use lib.ListN.{getD}
@@ -102,7 +102,8 @@ get-ranged [] i d e r = r
 get-ranged (row ∷ rows) zero d e r = row-ranged row (both-true (rowSound row) (rowsSound rows) e .0)
 get-ranged (row ∷ rows) (suc i) d e r = get-ranged rows i d (both-true (rowSound row) (rowsSound rows) e .1) r
 
-in-ranged : (rows : List Row) (id : Slot) → rowsSound rows ≡ true → Ranged (rowIn id rows)
+-- the row of an ID, also where it is blank
+pub in-ranged : (rows : List Row) (id : Slot) → rowsSound rows ≡ true → Ranged (rowIn id rows)
 in-ranged rows id e = get-ranged rows (placeAmong (id .0) (idsOf rows)) (blank id) e (record { on-a = refl; on-b = refl })
 
 module _ (even : List Row) (e : rowsSound even ≡ true) where

@@ -1,6 +1,6 @@
 -- Values gathered in an array, row after row.
 use Prim.Native.Nat.{ℕ, suc, _<_}
-use mathlib.Core.Path.{_≡_, refl, sym, ap, _∙_}
+use mathlib.Core.Path.{_≡_, sym, ap, _∙_}
 use mathlib.Core.List.{List, [], _∷_, _++_, map, append-nil}
 use lib.IntN.{ℤ}
 use lib.ListN.{length, set, take}

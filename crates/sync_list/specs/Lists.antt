@@ -3,7 +3,7 @@ use Prim.Native.Nat.{ℕ, suc}
 use mathlib.Core.Bool.{Bool, true, false, not, _&&_, _||_, cond}
 use mathlib.Core.List.{List, [], _∷_, map}
 use lib.Dec.{eqb, leb, ltb}
-use lib.ListN.{getD, length, replicate, set, take}
+use lib.ListN.{getD, replicate, set, take}
 use Rattle.checksum.specs.declared.Channel.{Channel}
 use Rattle.frame.specs.declared.header.Slot.{Slot}
 use Rattle.sync_list.specs.declared.row.Measurement.{Measurement}

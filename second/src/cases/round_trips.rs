@@ -1,5 +1,6 @@
 //! What is written is read back, and what was read is written again (01 "Frame layout").
 
+use crate::answer::Answer;
 use crate::channel::Channel;
 use crate::draft::{fair_words, Draft};
 use crate::faults::fair_write;
@@ -7,7 +8,6 @@ use crate::frame::{self, Fields, MOST_WORDS, SMALLEST_FRAME};
 use crate::plan::{Expected, Note, Plan};
 use crate::random::Random;
 use crate::refusal::Refusal;
-use crate::replay::Answer;
 use crate::script::{Command, Write};
 
 const ROUNDS: usize = 150;

@@ -62,10 +62,8 @@ fn add_repaired(plan: &mut Plan, random: &mut Random, pair: &Pair) {
 
 /// Values out of range, each beside the end of the range that is nearest.
 fn settings(random: &mut Random, field: usize) -> Vec<Pair> {
-    let (lowest, highest) = settings::ends(field);
-    let below = lowest.checked_sub(1).map(|value| (value, lowest));
     let mut pairs = Vec::new();
-    for (wrong, right) in below.into_iter().chain([(highest + 1, highest), (u32::MAX, highest)]) {
+    for (wrong, right) in settings::beyond(field) {
         let fair = Scene::first_slot(random);
         let slot = Scene { settings: fair.settings.with_field(field, right), ..fair };
         let sound = slot.fresh();

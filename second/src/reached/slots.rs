@@ -2,16 +2,17 @@
 
 use std::mem;
 
-use super::{coincidences, required_answers, Reach, Reached};
+use super::frames::required_answers;
+use super::{coincidences, Reach, Reached};
+use crate::answer::Answer;
 use crate::channel::Channel;
 use crate::history::with_conflict;
 use crate::plan::Note;
 use crate::reason::Reason;
 use crate::refusal::{Refusal, OPEN_SLOT_ORDER, READ_ORDER};
-use crate::replay::Answer;
 use crate::scene::Kind;
 use crate::script::{Command, Opening};
-use crate::settings::{FIELDS, RANGES};
+use crate::settings::{self, FIELDS, RANGES};
 use crate::slot_note::{Clause, Difference, First, SlotNote, Sort, BORDERS, LOOKS};
 use crate::status_numbers::StatusNumbers;
 
@@ -46,15 +47,15 @@ impl Reached {
         self.from_opening = false;
     }
 
-    /// What was answered about frames counts until a command that can change the status: what is shown behind that one
+    /// What was answered beside the slot counts until a command that can change the status: what is shown behind that one
     /// is another status.
     pub(super) fn follow_status(&mut self, command: &Command, answer: &Answer) {
-        match command {
-            Command::Checksum(_) | Command::Read(_) | Command::Write(_) => {
-                self.about_frames.insert((command.letter(), answer.number()));
+        match command.letter() {
+            'S' | 'A' | 'B' | 'X' | 'T' => self.beside_status.clear(),
+            'D' => (),
+            letter => {
+                self.beside_status.insert((letter, answer.number()));
             }
-            Command::Show => (),
-            _ => self.about_frames.clear(),
         }
     }
 
@@ -63,7 +64,7 @@ impl Reached {
             self.add(Reach::MarksFromOpening(numbers.channel, numbers.marks));
         }
         // A status that was lost would have no marks, so that without marks the showing proves nothing.
-        let answers = mem::take(&mut self.about_frames).into_iter().filter(|_| numbers.marks != 0);
+        let answers = mem::take(&mut self.beside_status).into_iter().filter(|_| numbers.marks != 0);
         answers.for_each(|(letter, number)| self.add(Reach::StatusStayed(letter, number)));
     }
 
@@ -93,7 +94,7 @@ pub(super) fn required() -> Vec<Reach> {
     all
 }
 
-fn answers() -> Vec<Reach> {
+pub(super) fn answers() -> Vec<Reach> {
     let mut all = vec![Reach::Answer('S', 0), Reach::Answer('T', 0), Reach::Answer('D', 0)];
     all.extend(OPEN_SLOT_ORDER.map(|refusal| Reach::Answer('S', refusal.number())));
     for letter in EVENTS {
@@ -120,14 +121,8 @@ fn openings() -> Vec<Reach> {
 }
 
 /// Fields with the values beside their range and with the highest of all.
-fn wrong_fields() -> Vec<(usize, u32)> {
-    let numbered = RANGES.into_iter().enumerate();
-    let wrong = numbered.flat_map(|(place, range)| {
-        let (lowest, highest) = range.into_inner();
-        let values = lowest.checked_sub(1).into_iter().chain([highest + 1, u32::MAX]);
-        values.map(move |value| (place + 1, value))
-    });
-    wrong.collect()
+pub(super) fn wrong_fields() -> Vec<(usize, u32)> {
+    (1..=FIELDS).flat_map(|field| settings::beyond(field).into_iter().map(move |(wrong, _)| (field, wrong))).collect()
 }
 
 /// Every answer about a frame is given while a status is held.

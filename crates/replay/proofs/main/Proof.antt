@@ -8,13 +8,13 @@ use Rattle.replay.proofs.main.Lts as lts
 use Rattle.replay.proofs.play.Reads as play-reads
 use Rattle.replay.proofs.script.take_letter.Reads as take-letter-reads
 use Rattle.replay.proofs.script_error.Reads as script-error-reads
-use Rattle.slot.proofs.status.Status.none.Reads as none-reads
+use Rattle.replay.proofs.held.Held.none.Reads as none-reads
 
 abbrev Inv-loop : tie.InvT-loop
-Inv-loop status₀ command₀ status command = Unit {0}
+Inv-loop held₀ command₀ held command = Unit {0}
 
 abbrev μ-loop : tie.MeasureT-loop
-μ-loop status₀ command₀ status command = 2 ^ 64 - command
+μ-loop held₀ command₀ held command = 2 ^ 64 - command
 
 none-requires : tie.Need-none-requires Inv-loop μ-loop
 none-requires c κs = search needs

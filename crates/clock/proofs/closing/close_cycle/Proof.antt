@@ -3,28 +3,29 @@ use Rattle.clock.proofs.closing.close_cycle.Statement.{statement}
 use Rattle.clock.proofs.closing.close_cycle.Tie as tie
 use Rattle.clock.proofs.closing.close_cycle.Reads as reads
 use Rattle.clock.proofs.closing.close_cycle.Lts as lts
-use Rattle.clock.proofs.closing.closed_on.Reads as closed-on-reads
+use Rattle.clock.proofs.closing.closed_with.Reads as closed-with-reads
+use Rattle.clock.proofs.closing.rate_found.Reads as rate-found-reads
 use Rattle.clock.proofs.closing.refused.Reads as refused-reads
 use Rattle.clock.proofs.closing.report_of.Reads as report-of-reads
 use Rattle.clock.proofs.sound.is_sound.Reads as is-sound-reads
 use Rattle.clock.proofs.state.CycleOrNone.is_there.Reads as is-there-reads
 use Rattle.correction.proofs.external.Control.named.Reads as named-reads
 use mathlib.Core.Path.{_≡_, refl, sym, ap, subst, _∙_}
-use mathlib.Core.Bool.{Bool, true, false, not, _&&_, _||_}
+use mathlib.Core.Bool.{Bool, true, false, not, _||_}
 use borrow.Author.Tests.{not-true, not-false}
 use Rattle.refusal.specs.Refusal.{first}
 use Rattle.refusal.proofs.FirstLaws.{first-skip, first-here, first-end}
 use lib.IntN.{ℤ}
-use Rattle.correction.specs.External.{signOf, notAControl}
+use Rattle.correction.specs.External.{signOf, notAControl, controlNamed}
 use Rattle.correction.proofs.ControlLaws.{named-sign, named-control, unnamed}
 use Rattle.clock.specs.declared.closing.Closing.the-variants.{Closed, NotSound, NoCycleOpen, NotAControl}
 use Rattle.clock.specs.declared.closing.Report.{Report}
 use Rattle.clock.specs.State.{isThere}
 use Rattle.clock.specs.Sound.{sound}
-use Rattle.clock.specs.Closing.{reportOf, closingRefusals, CloseSays}
+use Rattle.correction.specs.declared.term.Term.{Term}
+use Rattle.clock.specs.Closing.{rateFound, reportOf, closedWith, closingRefusals, CloseSays}
 use Rattle.clock.proofs.StatementLaws.{close-says}
 use mir.Facts.{toZ-ofZ}
-use Rattle.correction.specs.External.{controlNamed}
 
 -- ---- what each test says
 
@@ -125,28 +126,35 @@ returns-4 c =
     subst (CloseSays (a .clock) (a .offset-control) (a .rate-control)) (sym (c .refused4 .ensures))
     (close-says (a .clock) (a .offset-control) (a .rate-control) 21 NotAControl (a .clock) number refl refl)
 
-report-of-requires : tie.Need-report-of-requires
-report-of-requires c κs = is-sound (c .before .before .before .before .before .before .before .before .before .before)
+rate-found-requires : tie.Need-rate-found-requires
+rate-found-requires c κs = is-sound (c .before .before .before .before .before .before .before .before .before .before)
 
-closed-on-requires : tie.Need-closed-on-requires
-closed-on-requires c κs = is-sound (c .before .before .before .before .before .before .before .before .before .before .before)
+report-of-requires : tie.Need-report-of-requires
+report-of-requires c κs = (is-sound (c .before .before .before .before .before .before .before .before .before .before .before), c .rate-found .ensures)
+
+closed-with-requires : tie.Need-closed-with-requires
+closed-with-requires c κs = search needs
 
 returns-5 : tie.Need-returns-5
 returns-5 c =
-    let a = c .before .before .before .before .before .before .before .before .before .before .before .before .before .before .args in
-    let offset = c .before .before .before .before .before .before .before .offset .given in
-    let rate = c .before .before .before .rate .given in
+    let s = c .before .before .before .before .before .before .before .before .before .before .before .before .before .before .before .before in
+    let a = s .args in
+    let k = c .before .before .before .before in
+    let offset = k .before .before .before .before .before .offset .given in
+    let rate = k .before .rate .given in
     let number : first (closingRefusals (a .clock) (a .offset-control) (a .rate-control)) ≡ 0 =
-    first-skip 23 _ (ap not (is-sound (c .before .before .before .before .before .before .before .before .before .before .before .before)))
-    ∙ first-skip 18 _ (ap not (is-open (c .before .before .before .before .before .before .before .before .before .before)))
-    ∙ first-skip 21 _ (ap (λ (b : Bool). b || notAControl (a .rate-control)) (offset-named (c .before .before .before .before .before .before)) ∙ rate-named (c .before .before))
+    first-skip 23 _ (ap not (is-sound (k .before .before .before .before .before .before .before .before .before .before)))
+    ∙ first-skip 18 _ (ap not (is-open (k .before .before .before .before .before .before .before .before)))
+    ∙ first-skip 21 _ (ap (λ (b : Bool). b || notAControl (a .rate-control)) (offset-named (k .before .before .before .before)) ∙ rate-named k)
     ∙ first-end in
-    let report : c .before .report-of .result ≡ reportOf (a .clock) (a .offset-control) (a .rate-control) =
-    c .before .report-of .ensures
-    ∙ ap (λ (z : ℤ). reportOf (a .clock) z (signOf (rate .0 .0))) (named-sign (a .offset-control) (offset .0 .0) (sym (named-as (c .before .before .before .before .before .before .before .before .before)) ∙ offset .1))
-    ∙ ap (reportOf (a .clock) (a .offset-control)) (named-sign (a .rate-control) (rate .0 .0) (sym (named-as-2 (c .before .before .before .before .before)) ∙ rate .1)) in
-    close-says (a .clock) (a .offset-control) (a .rate-control) 0 (Closed (c .before .report-of .result)) (c .closed-on .result) number
-    (ap (λ (r : Report). record { number = 0; report = r }) report) (c .closed-on .ensures)
+    let report : c .before .before .report-of .result ≡ reportOf (a .clock) (a .offset-control) (a .rate-control) =
+    c .before .before .report-of .ensures
+    ∙ ap (λ (z : ℤ). reportOf (a .clock) z (signOf (rate .0 .0))) (named-sign (a .offset-control) (offset .0 .0) (sym (named-as (k .before .before .before .before .before .before .before)) ∙ offset .1))
+    ∙ ap (reportOf (a .clock) (a .offset-control)) (named-sign (a .rate-control) (rate .0 .0) (sym (named-as-2 (k .before .before .before)) ∙ rate .1)) in
+    let stored : c .before .before .before .rate-found .result .value ≡ rateFound (a .clock) .value =
+    ap (λ (t : Term). t .value) (c .before .before .before .rate-found .ensures) in
+    close-says (a .clock) (a .offset-control) (a .rate-control) 0 (Closed (c .before .before .report-of .result)) (c .closed-with .result) number
+    (ap (λ (r : Report). record { number = 0; report = r }) report) (c .closed-with .ensures ∙ ap (closedWith (a .clock)) stored)
 
 pub close-cycle-spec : {M : Type 1} → statement M
 close-cycle-spec =
@@ -168,6 +176,7 @@ close-cycle-spec =
     enum-told-2
     refused-requires-4
     returns-4
+    rate-found-requires
     report-of-requires
-    closed-on-requires
+    closed-with-requires
     returns-5)

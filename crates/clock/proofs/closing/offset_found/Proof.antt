@@ -8,8 +8,6 @@ use Rattle.clock.proofs.state.Clock.open_cycle.Reads as open-cycle-read
 use Rattle.correction.proofs.offset_term.Reads as offset-term-reads
 use Rattle.settings.proofs.Settings.offset_limit.Reads as offset-limit-reads
 use Rattle.sync_list.proofs.list.SyncList.offset_values.Reads as offset-values-reads
-use mathlib.Core.Path.{_≡_, refl, sym, ap, _∙_}
-use mathlib.Core.Bool.{Bool, true, false, not, cond}
 
 open-cycle-requires : tie.Need-open-cycle-requires
 open-cycle-requires c κs = search needs

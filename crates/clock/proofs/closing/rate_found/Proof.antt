@@ -10,9 +10,7 @@ use Rattle.settings.proofs.Settings.drift_damping.Reads as drift-damping-reads
 use Rattle.settings.proofs.Settings.rate_limit.Reads as rate-limit-reads
 use Rattle.sync_list.proofs.list.SyncList.rate_values.Reads as rate-values-reads
 use mathlib.Core.Path.{_≡_, sym, ap, _∙_}
-use mathlib.Core.Bool.{true, false}
 use borrow.Author.Tests.{not-true, not-false}
-use Rattle.frame.specs.declared.header.Cycle.{Cycle}
 use Rattle.clock.specs.State.{isOdd, openCycle}
 use Rattle.clock.proofs.RangeLaws.{rate-is-whole}
 use Rattle.settings.specs.Sheet.{driftDamping, rateLimit}

@@ -4,18 +4,13 @@ use Rattle.clock.proofs.closing.report_of.Tie as tie
 use Rattle.clock.proofs.closing.report_of.Reads as reads
 use Rattle.clock.proofs.closing.report_of.Lts as lts
 use Rattle.clock.proofs.closing.offset_found.Reads as offset-found-reads
-use Rattle.clock.proofs.closing.rate_found.Reads as rate-found-reads
 use Rattle.clock.proofs.state.Clock.list_of.Reads as list-of-reads
 use Rattle.clock.proofs.state.Clock.open_cycle.Reads as open-cycle-reads
 use Rattle.correction.proofs.with_external.Reads as with-external-reads
 use Rattle.settings.proofs.Settings.external_offset_unit.Reads as external-offset-unit-reads
 use Rattle.settings.proofs.Settings.external_rate_unit.Reads as external-rate-unit-reads
-use Prim.Native.Nat.{ℕ}
-use mathlib.Core.Path.{_≡_, sym, ap, _∙_}
-use lib.IntN.{ℤ}
+use mathlib.Core.Path.{_≡_, ap, _∙_}
 use Rattle.settings.specs.Sheet.{externalOffsetUnit, externalRateUnit}
-use Rattle.correction.specs.declared.term.Term.{Term}
-use Rattle.correction.specs.Microtick.{held}
 use Rattle.correction.specs.External.{signOf, withExternal}
 use Rattle.frame.specs.declared.header.Cycle.{Cycle}
 use Rattle.clock.specs.State.{openCycle, listOf}
@@ -31,9 +26,6 @@ list-of-requires c κs = search needs
 offset-found-requires : tie.Need-offset-found-requires
 offset-found-requires c κs = search needs
 
-rate-found-requires : tie.Need-rate-found-requires
-rate-found-requires c κs = c .before .before .before .before .pre
-
 external-offset-unit-requires : tie.Need-external-offset-unit-requires
 external-offset-unit-requires c κs = search needs
 
@@ -48,17 +40,17 @@ with-external-requires-2 c κs = search needs
 
 returns : tie.Need-returns
 returns c =
-    let s = c .before .before .before .before .before .before .before .before .before .before .before in
+    let s = c .before .before .before .before .before .before .before .before .before .before in
     let k = s .args .clock in
-    let offset = c .before .before .before .before .before .before .before .offset-found .ensures in
-    let rate = c .before .before .before .before .before .before .rate-found .ensures in
-    let list : c .before .before .before .before .before .before .before .before .list-of .result ≡ listOf (openCycle k) k =
-    c .before .before .before .before .before .before .before .before .list-of .ensures ∙ ap (λ (n : Cycle). listOf n k) (c .before .before .before .before .before .before .before .before .before .open-cycle .ensures) in
+    let offset = c .before .before .before .before .before .before .offset-found .ensures in
+    let rate = s .pre .1 in
+    let list : c .before .before .before .before .before .before .before .list-of .result ≡ listOf (openCycle k) k =
+    c .before .before .before .before .before .before .before .list-of .ensures ∙ ap (λ (n : Cycle). listOf n k) (c .before .before .before .before .before .before .before .before .open-cycle .ensures) in
     let offset-term : c .before .before .with-external .result .0 ≡ withExternal (offsetFound k .value .0) (signOf (s .args .offset-control)) (externalOffsetUnit (k .settings)) =
     rw (c .before .before .before .external-offset-unit .ensures, offset) at (c .before .before .with-external .ensures)
-    ∙ offset-reported k (s .pre) (s .args .offset-control) in
+    ∙ offset-reported k (s .pre .0) (s .args .offset-control) in
     let rate-term : c .with-external2 .result .0 ≡ withExternal (rateFound k .value .0) (signOf (s .args .rate-control)) (externalRateUnit (k .settings)) =
-    rw (c .before .external-rate-unit .ensures, rate) at (c .with-external2 .ensures) ∙ rate-reported k (s .pre) (s .args .rate-control) in
+    rw (c .before .external-rate-unit .ensures, rate) at (c .with-external2 .ensures) ∙ rate-reported k (s .pre .0) (s .args .rate-control) in
     λ i. record {
       offset = record { 0 = offset-term i };
       rate = record { 0 = rate-term i };
@@ -76,7 +68,6 @@ report-of-spec =
     open-cycle-requires
     list-of-requires
     offset-found-requires
-    rate-found-requires
     external-offset-unit-requires
     with-external-requires
     external-rate-unit-requires

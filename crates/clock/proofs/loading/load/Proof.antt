@@ -6,14 +6,11 @@ use Rattle.clock.proofs.loading.load.Lts as lts
 use Rattle.clock.proofs.state.Clock.fresh.Reads as fresh-reads
 use Rattle.clock.proofs.state.Clock.none.Reads as none-reads
 use Rattle.settings.proofs.Settings.first_out_of_range.Reads as first-out-of-range-reads
-use mathlib.Core.Path.{_≡_, refl, sym, ap, subst, _∙_}
-use mathlib.Core.Bool.{Bool, true, false, not, _&&_, _||_}
-use borrow.Author.Tests.{not-true, not-false}
+use mathlib.Core.Path.{_≡_, sym, ap, _∙_}
 use Rattle.refusal.specs.Refusal.{first}
 use Rattle.refusal.proofs.FirstLaws.{first-skip, first-here, first-end}
-use Rattle.settings.specs.Sheet.{firstOutOfRange}
 use Rattle.settings.proofs.SheetLaws.{out-of-range, in-range}
-use Rattle.clock.specs.Loading.{loadRefusals, Told}
+use Rattle.clock.specs.Loading.{loadRefusals}
 use Rattle.clock.proofs.StatementLaws.{load-says}
 use Prim.Native.Nat.{ℕ}
 use Rattle.clock.specs.declared.loading.Loading.the-variants.{Loaded, SettingOutOfRange}

@@ -6,8 +6,6 @@ use Rattle.clock.proofs.measuring.deviation_by.Lts as lts
 use Rattle.clock.proofs.measuring.delay_on.Reads as delay-on-reads
 use Rattle.correction.proofs.deviation.Reads as deviation-reads
 use Rattle.settings.proofs.Settings.decoding_correction.Reads as decoding-correction-reads
-use mathlib.Core.Path.{_≡_, refl, sym, ap, _∙_}
-use mathlib.Core.Bool.{Bool, true, false, not, cond}
 
 delay-on-requires : tie.Need-delay-on-requires
 delay-on-requires c κs = search needs

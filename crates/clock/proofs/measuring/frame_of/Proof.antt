@@ -3,8 +3,7 @@ use Rattle.clock.proofs.measuring.frame_of.Statement.{statement}
 use Rattle.clock.proofs.measuring.frame_of.Tie as tie
 use Rattle.clock.proofs.measuring.frame_of.Reads as reads
 use Rattle.clock.proofs.measuring.frame_of.Lts as lts
-use mathlib.Core.Path.{_≡_, refl, sym, ap, _∙_}
-use mathlib.Core.Bool.{Bool, true, false, not, cond}
+use mathlib.Core.Path.{sym, ap}
 use Rattle.clock.specs.Measuring.{headerIn}
 
 enum-known-kept : tie.Need-enum-known-kept

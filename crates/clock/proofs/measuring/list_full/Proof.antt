@@ -8,8 +8,6 @@ use Rattle.clock.proofs.state.Clock.list_of.Reads as list-of-reads
 use Rattle.clock.proofs.state.Clock.open_cycle.Reads as open-cycle-reads
 use Rattle.settings.proofs.Settings.sync_id_limit.Reads as sync-id-limit-reads
 use Rattle.sync_list.proofs.list.SyncList.is_full_for.Reads as is-full-for-reads
-use mathlib.Core.Path.{_≡_, refl, sym, ap, _∙_}
-use mathlib.Core.Bool.{Bool, true, false, not, cond}
 
 frame-of-requires : tie.Need-frame-of-requires
 frame-of-requires c κs = search needs

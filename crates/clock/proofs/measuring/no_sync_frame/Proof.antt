@@ -6,8 +6,8 @@ use Rattle.clock.proofs.measuring.no_sync_frame.Lts as lts
 use Rattle.clock.proofs.measuring.frame_of.Reads as frame-of-reads
 use Rattle.slot.proofs.is_static.Reads as is-static-reads
 use Rattle.slot.proofs.status.Kept.is_frame.Reads as is-frame-reads
-use mathlib.Core.Path.{_≡_, refl, sym, ap, _∙_}
-use mathlib.Core.Bool.{Bool, true, false, not, cond}
+use mathlib.Core.Path.{_≡_, sym, ap, _∙_}
+use mathlib.Core.Bool.{true, not}
 use borrow.Author.Tests.{not-true, not-false}
 use Rattle.slot.specs.Judging.{isFrame}
 use Rattle.clock.specs.Measuring.{frameOf}

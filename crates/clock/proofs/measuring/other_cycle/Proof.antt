@@ -5,12 +5,11 @@ use Rattle.clock.proofs.measuring.other_cycle.Reads as reads
 use Rattle.clock.proofs.measuring.other_cycle.Lts as lts
 use Rattle.clock.proofs.measuring.frame_of.Reads as frame-of-reads
 use Rattle.clock.proofs.state.Clock.open_cycle.Reads as open-cycle-reads
-use mathlib.Core.Path.{_≡_, refl, sym, ap, _∙_}
-use mathlib.Core.Bool.{Bool, true, false, not, cond}
+use mathlib.Core.Path.{ap, _∙_}
+use mathlib.Core.Bool.{not}
 use lib.Dec.{eqb}
 use Rattle.frame.specs.declared.header.Header.{Header}
 use Rattle.frame.specs.declared.header.Cycle.{Cycle}
-use Rattle.clock.specs.State.{openCycle}
 use Rattle.clock.specs.Measuring.{frameOf}
 
 frame-of-requires : tie.Need-frame-of-requires

@@ -5,8 +5,7 @@ use Rattle.clock.proofs.opening.even_after.Reads as reads
 use Rattle.clock.proofs.opening.even_after.Lts as lts
 use Rattle.clock.proofs.opening.keeps_even.Reads as keeps-even-reads
 use Rattle.sync_list.proofs.list.SyncList.empty.Reads as empty-reads
-use mathlib.Core.Path.{_≡_, refl, sym, ap, _∙_}
-use mathlib.Core.Bool.{Bool, true, false, not, cond}
+use mathlib.Core.Path.{sym, _∙_}
 
 keeps-even-requires : tie.Need-keeps-even-requires
 keeps-even-requires c κs = search needs

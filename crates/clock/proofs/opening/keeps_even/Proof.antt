@@ -5,12 +5,10 @@ use Rattle.clock.proofs.opening.keeps_even.Reads as reads
 use Rattle.clock.proofs.opening.keeps_even.Lts as lts
 use Rattle.clock.proofs.state.CycleOrNone.is_cycle.Reads as is-cycle-reads
 use Rattle.clock.proofs.state.is_odd.Reads as is-odd-reads
-use mathlib.Core.Path.{_≡_, refl, sym, ap, _∙_}
-use mathlib.Core.Bool.{Bool, true, false, not, cond}
-use borrow.Author.Tests.{not-true, not-false}
+use mathlib.Core.Path.{_≡_, sym, _∙_}
+use mathlib.Core.Bool.{true}
+use borrow.Author.Tests.{not-true, not-false, eqb-true}
 use native.Mathlib.Omega.{arith}
-use lib.Dec.{eqb}
-use borrow.Author.Tests.{eqb-true}
 use Prim.Native.Nat.{_%_}
 use Rattle.clock.specs.State.{isOdd}
 

@@ -9,7 +9,7 @@ use Rattle.clock.proofs.sound.is_sound.Reads as is-sound-reads
 use Rattle.clock.proofs.state.CycleOrNone.is_there.Reads as is-there-reads
 use Rattle.frame.proofs.header.Cycle.is_too_high.Reads as is-too-high-reads
 use mathlib.Core.Path.{_≡_, refl, sym, ap, subst, _∙_}
-use mathlib.Core.Bool.{Bool, true, false, not, _&&_, _||_}
+use mathlib.Core.Bool.{true, false, not}
 use borrow.Author.Tests.{not-true, not-false}
 use Rattle.refusal.specs.Refusal.{first}
 use Rattle.refusal.proofs.FirstLaws.{first-skip, first-here, first-end}

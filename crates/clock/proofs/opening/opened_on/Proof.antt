@@ -5,8 +5,6 @@ use Rattle.clock.proofs.opening.opened_on.Reads as reads
 use Rattle.clock.proofs.opening.opened_on.Lts as lts
 use Rattle.clock.proofs.opening.even_after.Reads as even-after-reads
 use Rattle.sync_list.proofs.list.SyncList.empty.Reads as empty-reads
-use mathlib.Core.Path.{_≡_, refl, sym, ap, _∙_}
-use mathlib.Core.Bool.{Bool, true, false, not, cond}
 use Rattle.clock.specs.declared.state.CycleOrNone.the-variants.{Is}
 
 even-after-requires : tie.Need-even-after-requires

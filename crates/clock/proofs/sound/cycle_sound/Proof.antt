@@ -4,8 +4,8 @@ use Rattle.clock.proofs.sound.cycle_sound.Tie as tie
 use Rattle.clock.proofs.sound.cycle_sound.Reads as reads
 use Rattle.clock.proofs.sound.cycle_sound.Lts as lts
 use Rattle.frame.proofs.header.Cycle.is_too_high.Reads as is-too-high-reads
-use mathlib.Core.Path.{_≡_, refl, sym, ap, _∙_}
-use mathlib.Core.Bool.{Bool, true, false, not, cond}
+use mathlib.Core.Path.{sym, ap, _∙_}
+use mathlib.Core.Bool.{not}
 use Rattle.clock.specs.Sound.{cycleSound}
 
 enum-known-cycle : tie.Need-enum-known-cycle

@@ -9,10 +9,10 @@ use Rattle.settings.proofs.Settings.first_out_of_range.Reads as first-out-of-ra
 use Rattle.settings.proofs.Settings.rate_limit.Reads as rate-limit-reads
 use Rattle.settings.proofs.Settings.sync_id_limit.Reads as sync-id-limit-reads
 use Rattle.sync_list.proofs.list.SyncList.is_sound.Reads as is-sound-reads
-use mathlib.Core.Path.{_≡_, refl, sym, ap, _∙_}
-use mathlib.Core.Bool.{Bool, true, false, not, cond}
+use mathlib.Core.Path.{_≡_, sym, ap, _∙_}
+use mathlib.Core.Bool.{true, false}
 use borrow.Author.Tests.{not-true, not-false}
-use Rattle.clock.specs.Sound.{cycleSound, rateSound, sound}
+use Rattle.clock.specs.Sound.{cycleSound, rateSound}
 use Rattle.settings.specs.Sheet.{outOfRange, syncIdLimit}
 use Rattle.settings.proofs.SheetLaws.{out-of-range, in-range}
 use Rattle.sync_list.specs.Sound.{listSound}

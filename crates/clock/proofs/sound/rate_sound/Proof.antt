@@ -13,8 +13,8 @@ use mir.Facts.{toZ-ofZ}
 use Rattle.numbers.proofs.Signed.{signed}
 use Rattle.numbers.proofs.Walk.{cases}
 use Rattle.numbers.proofs.Wide.{wide-unsigned, wide-asked, wide-signed, wide-negated}
-use mathlib.Core.Path.{_≡_, refl, sym, ap, _∙_}
-use mathlib.Core.Bool.{Bool, true, false, not, cond}
+use mathlib.Core.Path.{_≡_}
+use mathlib.Core.Bool.{true, false}
 
 rate-fits : (c : tie.Start) → SFits w32 (c .args .rate .0)
 rate-fits c = search needs

@@ -5,7 +5,6 @@ use Rattle.correction.proofs.arrival.deviation.Reads as reads
 use Rattle.correction.proofs.arrival.deviation.Lts as lts
 use Rattle.correction.proofs.microtick.SignedMicrotick.holding.Reads as holding-reads
 use Prim.Native.Nat.{_<_, _^_}
-use mathlib.Core.Path.{_≡_, sym, ap, _∙_}
 use native.Mathlib.Omega.{arith}
 use lib.IntN.{pos, _-ℤ_}
 use mir.Syntax.{w64}

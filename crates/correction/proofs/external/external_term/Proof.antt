@@ -4,7 +4,7 @@ use Rattle.correction.proofs.external.external_term.Tie as tie
 use Rattle.correction.proofs.external.external_term.Reads as reads
 use Rattle.correction.proofs.external.external_term.Lts as lts
 use Prim.Native.Nat.{_<_, _^_}
-use mathlib.Core.Path.{_≡_, refl, sym, ap, _∙_}
+use mathlib.Core.Path.{sym, ap, _∙_}
 use native.Mathlib.Omega.{arith}
 use mir.Facts.{toZ-ofZ}
 use Rattle.numbers.proofs.Wide.{wide-unsigned, wide-negated}

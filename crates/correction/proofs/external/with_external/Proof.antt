@@ -5,8 +5,6 @@ use Rattle.correction.proofs.external.with_external.Reads as reads
 use Rattle.correction.proofs.external.with_external.Lts as lts
 use Rattle.correction.proofs.external.external_term.Reads as external-term-reads
 use Rattle.correction.proofs.microtick.SignedMicrotick.holding.Reads as holding-reads
-use mathlib.Core.Path.{_≡_, sym, ap, _∙_}
-use mathlib.Core.Bool.{true, false}
 use native.Mathlib.Omega.{arith}
 use mir.Syntax.{w32, w64}
 use mir.Val.{SFits}

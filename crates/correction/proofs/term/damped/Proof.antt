@@ -4,12 +4,12 @@ use Rattle.correction.proofs.term.damped.Tie as tie
 use Rattle.correction.proofs.term.damped.Reads as reads
 use Rattle.correction.proofs.term.damped.Lts as lts
 use Prim.Native.Nat.{_<_, _^_}
-use mathlib.Core.Path.{_≡_, refl, sym, ap, _∙_}
+use mathlib.Core.Path.{_≡_}
 use mathlib.Core.Bool.{true, false}
 use native.Mathlib.Omega.{arith}
 use lib.IntN.{pos, negℤ, _+ℤ_, _-ℤ_, +ℤ-idl}
 use lib.Signed.{ltZ}
-use mir.Syntax.{w32, w64}
+use mir.Syntax.{w32}
 use mir.Val.{SFits}
 use mir.Facts.{toZ-ofZ}
 use Rattle.numbers.proofs.Signed.{signed, add-sum, sub-sums, up-neg, dn-neg}

@@ -4,9 +4,7 @@ use Rattle.correction.proofs.value.difference.Tie as tie
 use Rattle.correction.proofs.value.difference.Reads as reads
 use Rattle.correction.proofs.value.difference.Lts as lts
 use Rattle.correction.proofs.microtick.SignedMicrotick.holding.Reads as holding-reads
-use mathlib.Core.Path.{_≡_, sym, ap, _∙_}
-use mathlib.Core.Bool.{true, false}
-use lib.Signed.{ltZ}
+use mathlib.Core.Path.{ap}
 use mir.Syntax.{w32}
 use mir.Val.{SFits}
 use mir.Facts.{toZ-ofZ}

@@ -5,7 +5,6 @@ use Rattle.correction.proofs.value.rate_value.Reads as reads
 use Rattle.correction.proofs.value.rate_value.Lts as lts
 use Rattle.correction.proofs.value.difference.Reads as difference-reads
 use Rattle.correction.proofs.value.joined.Reads as joined-reads
-use mathlib.Core.Path.{_≡_}
 
 difference-requires : tie.Need-difference-requires
 difference-requires c κs = search needs

@@ -3,7 +3,7 @@ use Rattle.correction.proofs.value.smaller.Statement.{statement}
 use Rattle.correction.proofs.value.smaller.Tie as tie
 use Rattle.correction.proofs.value.smaller.Reads as reads
 use Rattle.correction.proofs.value.smaller.Lts as lts
-use mathlib.Core.Path.{_≡_, sym, ap, _∙_}
+use mathlib.Core.Path.{_≡_}
 use mathlib.Core.Bool.{true, false}
 use lib.Signed.{ltZ}
 use mir.Syntax.{w32}

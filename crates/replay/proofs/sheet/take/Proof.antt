@@ -8,7 +8,7 @@ use Rattle.replay.proofs.sheet.take.Reads as reads
 use Rattle.replay.proofs.sheet.take.Lts as lts
 use Rattle.replay.proofs.script.is_no_switch.Reads as is-no-switch-reads
 use Rattle.replay.proofs.script.take.Reads as take-reads
-use Rattle.replay.proofs.script.take_field.Reads as take-field-reads
+use Rattle.replay.proofs.script.take_long.Reads as take-long-reads
 use Rattle.replay.proofs.sheet.script_error.Reads as script-error-reads
 
 abbrev Inv-loop : tie.InvT-loop
@@ -20,8 +20,8 @@ abbrev μ-loop : tie.MeasureT-loop
 loop-holds : tie.Need-loop-holds Inv-loop μ-loop
 loop-holds c = omega arith
 
-take-field-requires : tie.Need-take-field-requires Inv-loop μ-loop
-take-field-requires c κs = search needs
+take-long-requires : tie.Need-take-long-requires Inv-loop μ-loop
+take-long-requires c κs = search needs
 
 script-error-requires : tie.Need-script-error-requires Inv-loop μ-loop
 script-error-requires c κs = search needs
@@ -81,7 +81,7 @@ take-spec =
     Inv-loop
     μ-loop
     loop-holds
-    take-field-requires
+    take-long-requires
     script-error-requires
     returns
     mul-fields

@@ -3,15 +3,13 @@ use Rattle.sync_list.proofs.places.ids_of.Statement.{statement}
 use Rattle.sync_list.proofs.places.ids_of.Tie as tie
 use Rattle.sync_list.proofs.places.ids_of.Reads as reads
 use Rattle.sync_list.proofs.places.ids_of.Lts as lts
-use Prim.Native.Nat.{_≤_, _<_, _-_, _+_, suc}
-use mathlib.Core.Path.{_≡_, refl, sym, ap, _∙_}
-use mathlib.Core.Bool.{true, false}
-use mathlib.Core.List.{[], _∷_, _++_, map, append-nil}
+use Prim.Native.Nat.{_≤_, _<_, _-_, _+_}
+use mathlib.Core.Path.{_≡_, refl, _∙_}
+use mathlib.Core.List.{_++_, append-nil}
 use native.Mathlib.Numerals.{add-one}
 use native.Mathlib.Omega.{arith}
-use lib.ListN.{length, getD, take, drop, length-set}
+use lib.ListN.{length, getD, take, drop, length-set, drop-of-length-le}
 use lib.Seq.{append-snoc, drop-cons, take-all, take-suc-set}
-use lib.ListN.{drop-of-length-le}
 use Rattle.sync_list.specs.Rows.{blank}
 use Rattle.sync_list.specs.Lists.{rowCount, idOf, idsOf}
 

@@ -6,12 +6,10 @@ use Rattle.sync_list.proofs.places.place_from.Reads as place-from-reads
 use Prim.Native.Nat.{ℕ, _≤_, _<_, _-_, _+_, suc}
 use mathlib.Core.Path.{_≡_, refl, sym, ap, _∙_}
 use mathlib.Core.Bool.{true, false}
-use mathlib.Core.List.{[], _∷_, _++_, map}
 use native.Mathlib.Numerals.{add-one}
 use native.Mathlib.Omega.{arith}
-use lib.ListN.{length, getD, take, drop, length-set}
-use borrow.Author.Tests.{lt-ltb, le-ltb, ltb-true}
-use lib.ListN.{length-drop}
+use lib.ListN.{length, getD, take, drop, length-drop}
+use borrow.Author.Tests.{lt-ltb, le-ltb}
 use lib.Seq.{length-take-le}
 use Rattle.numbers.proofs.Walk.{rest, rest-end}
 use Rattle.sync_list.specs.Lists.{placeAmong, isAmong, noneTwice}

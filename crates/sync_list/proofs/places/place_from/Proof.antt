@@ -3,12 +3,10 @@ use Rattle.sync_list.proofs.places.place_from.Tie as tie
 use Rattle.sync_list.proofs.places.place_from.Reads as reads
 use Rattle.sync_list.proofs.places.place_from.Lts as lts
 use Prim.Native.Nat.{_≤_, _<_, _-_, _+_, suc}
-use mathlib.Core.Path.{_≡_, refl, sym, ap, _∙_}
-use mathlib.Core.Bool.{true, false}
-use mathlib.Core.List.{[], _∷_, _++_, map, append-nil}
+use mathlib.Core.Path.{_≡_, refl}
 use native.Mathlib.Numerals.{add-one}
 use native.Mathlib.Omega.{arith}
-use lib.ListN.{length, getD, take, drop, length-set}
+use lib.ListN.{getD, take, drop}
 use borrow.Author.Tests.{eq-eqb, ne-eqb}
 use Rattle.numbers.proofs.Walk.{rest, rest-end}
 use Rattle.sync_list.specs.Lists.{placeAmong}

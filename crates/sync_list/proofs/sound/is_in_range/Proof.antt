@@ -4,7 +4,7 @@ use Rattle.sync_list.proofs.sound.is_in_range.Tie as tie
 use Rattle.sync_list.proofs.sound.is_in_range.Reads as reads
 use Rattle.sync_list.proofs.sound.is_in_range.Lts as lts
 use Rattle.correction.proofs.microtick.SignedMicrotick.is_deviation.Reads as is-deviation-reads
-use mathlib.Core.Path.{_≡_, sym, ap, _∙_}
+use mathlib.Core.Path.{sym, ap, _∙_}
 use Rattle.sync_list.specs.Sound.{isInRange}
 
 enum-known-measured : tie.Need-enum-known-measured

@@ -6,7 +6,7 @@ use Rattle.sync_list.proofs.sound.row_sound.Lts as lts
 use Rattle.frame.proofs.header.Slot.is_not_an_id.Reads as is-not-an-id-reads
 use Rattle.sync_list.proofs.sound.is_in_range.Reads as is-in-range-reads
 use Rattle.sync_list.proofs.sound.is_measured_on_one.Reads as is-measured-on-one-reads
-use mathlib.Core.Path.{_≡_, sym, ap, _∙_}
+use mathlib.Core.Path.{_≡_, sym, _∙_}
 use mathlib.Core.Bool.{true, false, _||_}
 use borrow.Author.Tests.{not-true, not-false}
 use Rattle.frame.specs.Refusals.{notAnId}

@@ -4,13 +4,12 @@ use Rattle.sync_list.proofs.sound.rows_sound.Tie as tie
 use Rattle.sync_list.proofs.sound.rows_sound.Reads as reads
 use Rattle.sync_list.proofs.sound.rows_sound.Lts as lts
 use Rattle.sync_list.proofs.sound.row_sound.Reads as row-sound-reads
-use Prim.Native.Nat.{_≤_, _<_, _-_, _+_, suc}
-use mathlib.Core.Path.{_≡_, refl, sym, ap, _∙_}
+use Prim.Native.Nat.{_≤_, _<_, _-_}
+use mathlib.Core.Path.{_≡_, refl, sym, _∙_}
 use mathlib.Core.Bool.{true, false}
-use mathlib.Core.List.{[], _∷_, _++_, map, append-nil}
 use native.Mathlib.Numerals.{add-one}
 use native.Mathlib.Omega.{arith}
-use lib.ListN.{length, getD, take, drop, length-set}
+use lib.ListN.{length, getD, take, drop}
 use borrow.Author.Tests.{not-true, not-false}
 use Rattle.numbers.proofs.Walk.{rest, rest-end}
 use Rattle.sync_list.specs.Rows.{blank}

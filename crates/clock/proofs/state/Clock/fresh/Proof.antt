@@ -4,8 +4,6 @@ use Rattle.clock.proofs.state.Clock.fresh.Tie as tie
 use Rattle.clock.proofs.state.Clock.fresh.Reads as reads
 use Rattle.clock.proofs.state.Clock.fresh.Lts as lts
 use Rattle.sync_list.proofs.list.SyncList.empty.Reads as empty-reads
-use mathlib.Core.Path.{_≡_, refl, sym, ap, _∙_}
-use mathlib.Core.Bool.{Bool, true, false, not, cond}
 use lib.IntN.{pos}
 use Rattle.clock.specs.declared.state.CycleOrNone.the-variants.{NoCycle}
 

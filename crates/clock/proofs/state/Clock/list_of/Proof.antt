@@ -4,8 +4,8 @@ use Rattle.clock.proofs.state.Clock.list_of.Tie as tie
 use Rattle.clock.proofs.state.Clock.list_of.Reads as reads
 use Rattle.clock.proofs.state.Clock.list_of.Lts as lts
 use Rattle.clock.proofs.state.is_odd.Reads as is-odd-reads
-use mathlib.Core.Path.{_≡_, refl, sym, ap, _∙_}
-use mathlib.Core.Bool.{Bool, true, false, not, cond}
+use mathlib.Core.Path.{sym, ap, _∙_}
+use mathlib.Core.Bool.{Bool, cond}
 
 is-odd-requires : tie.Need-is-odd-requires
 is-odd-requires c κs = search needs

@@ -5,8 +5,7 @@ use Rattle.clock.proofs.state.Clock.none.Reads as reads
 use Rattle.clock.proofs.state.Clock.none.Lts as lts
 use Rattle.clock.proofs.state.Clock.fresh.Reads as fresh-reads
 use Rattle.settings.proofs.Settings.none.Reads as none-reads
-use mathlib.Core.Path.{_≡_, refl, sym, ap, _∙_}
-use mathlib.Core.Bool.{Bool, true, false, not, cond}
+use mathlib.Core.Path.{ap, _∙_}
 use Rattle.clock.specs.State.{fresh}
 
 none-requires : tie.Need-none-requires

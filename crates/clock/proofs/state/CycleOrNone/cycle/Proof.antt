@@ -3,8 +3,7 @@ use Rattle.clock.proofs.state.CycleOrNone.cycle.Statement.{statement}
 use Rattle.clock.proofs.state.CycleOrNone.cycle.Tie as tie
 use Rattle.clock.proofs.state.CycleOrNone.cycle.Reads as reads
 use Rattle.clock.proofs.state.CycleOrNone.cycle.Lts as lts
-use mathlib.Core.Path.{_≡_, refl, sym, ap, _∙_}
-use mathlib.Core.Bool.{Bool, true, false, not, cond}
+use mathlib.Core.Path.{sym, ap}
 use Rattle.clock.specs.State.{cycleIn}
 
 enum-known-self : tie.Need-enum-known-self

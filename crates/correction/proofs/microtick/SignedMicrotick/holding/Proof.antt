@@ -2,13 +2,13 @@ use Rattle.correction.proofs.microtick.SignedMicrotick.holding.Statemen
 use Rattle.correction.proofs.microtick.SignedMicrotick.holding.Tie as tie
 use Rattle.correction.proofs.microtick.SignedMicrotick.holding.Reads as reads
 use Rattle.correction.proofs.microtick.SignedMicrotick.holding.Lts as lts
-use mathlib.Core.Path.{_≡_, sym, _∙_}
-use mathlib.Core.Bool.{true, false}
+use mathlib.Core.Path.{_≡_, sym}
+use mathlib.Core.Bool.{false}
 use lib.Signed.{ltZ}
 use mir.Syntax.{w32}
 use mir.Val.{SFits}
 use mir.Facts.{toZ-ofZ}
-use Rattle.correction.specs.Microtick.{lowestHeld, highestHeld}
+use Rattle.correction.specs.Microtick.{lowestHeld}
 use Rattle.correction.proofs.HeldLaws.{held-fits, held-below, held-above, between-fits}
 
 not-below : (c : tie.Else1) → ltZ (c .before .args .wide) lowestHeld ≡ false

@@ -3,9 +3,8 @@ use Rattle.correction.proofs.microtick.SignedMicrotick.is_deviation.Sta
 use Rattle.correction.proofs.microtick.SignedMicrotick.is_deviation.Tie as tie
 use Rattle.correction.proofs.microtick.SignedMicrotick.is_deviation.Reads as reads
 use Rattle.correction.proofs.microtick.SignedMicrotick.is_deviation.Lts as lts
-use mathlib.Core.Path.{_≡_, sym}
+use mathlib.Core.Path.{_≡_}
 use mathlib.Core.Bool.{true, false}
-use native.Mathlib.Omega.{arith}
 use lib.Signed.{leZ, ltZ}
 use mir.Syntax.{w32}
 use mir.Val.{SFits}

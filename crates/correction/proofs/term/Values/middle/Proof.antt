@@ -5,7 +5,7 @@ use Rattle.correction.proofs.term.Values.middle.Reads as reads
 use Rattle.correction.proofs.term.Values.middle.Lts as lts
 use Rattle.midpoint.proofs.midpoint.Reads as midpoint-reads
 use mathlib.Core.Path.{_≡_, _∙_, sym, ap}
-use mathlib.Core.Bool.{Bool, true, false}
+use mathlib.Core.Bool.{Bool}
 use lib.ListN.{length}
 use mir.Syntax.{w32}
 use mir.Val.{SFits}

@@ -4,7 +4,7 @@ use Rattle.sync_list.proofs.list.SyncList.empty.Tie as tie
 use Rattle.sync_list.proofs.list.SyncList.empty.Reads as reads
 use Rattle.sync_list.proofs.list.SyncList.empty.Lts as lts
 use Rattle.sync_list.proofs.row.Row.blank.Reads as blank-reads
-use mathlib.Core.Path.{_≡_, ap}
+use mathlib.Core.Path.{ap}
 use lib.ListN.{replicate}
 use Rattle.sync_list.specs.declared.row.Row.{Row}
 use Rattle.sync_list.specs.declared.list.SyncList.{SyncList}

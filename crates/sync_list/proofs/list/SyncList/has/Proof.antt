@@ -6,7 +6,6 @@ use Rattle.sync_list.proofs.list.SyncList.has.Lts as lts
 use Rattle.sync_list.proofs.list.SyncList.row_of.Reads as row-of-reads
 use Rattle.sync_list.proofs.row.Measured.is_measured.Reads as is-measured-reads
 use Rattle.sync_list.proofs.row.Row.on.Reads as on-reads
-use mathlib.Core.Path.{_≡_}
 
 row-of-requires : tie.Need-row-of-requires
 row-of-requires c κs = search needs

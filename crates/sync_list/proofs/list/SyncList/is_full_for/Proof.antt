@@ -5,14 +5,13 @@ use Rattle.sync_list.proofs.list.SyncList.is_full_for.Reads as reads
 use Rattle.sync_list.proofs.list.SyncList.is_full_for.Lts as lts
 use Rattle.sync_list.proofs.list.SyncList.listed.Reads as listed-reads
 use Rattle.sync_list.proofs.list.SyncList.place.Reads as place-reads
-use mathlib.Core.Path.{_≡_, refl, sym, ap, _∙_}
+use mathlib.Core.Path.{_≡_, sym, ap, _∙_}
 use lib.ListN.{length}
-use Rattle.numbers.proofs.Walk.{length-of-mapped}
+use Rattle.numbers.proofs.Walk.{length-of-mapped, cases}
 use Rattle.sync_list.specs.Lists.{rowCount}
-use mathlib.Core.Bool.{Bool, not}
+use mathlib.Core.Bool.{not}
 use borrow.Author.Tests.{lt-leb, le-leb, leb-true, leb-false}
 use lib.Dec.{leb}
-use Rattle.numbers.proofs.Walk.{cases}
 use Rattle.sync_list.proofs.ListLaws.{is-listed, not-listed}
 
 long : (c : tie.Start) → length (c .args .self .rows) ≡ rowCount

@@ -8,16 +8,15 @@ use Rattle.sync_list.proofs.places.ids_of.Reads as ids-of-reads
 use Rattle.sync_list.proofs.places.none_twice.Reads as none-twice-reads
 use Rattle.sync_list.proofs.sound.rows_sound.Reads as rows-sound-reads
 use mathlib.Core.Path.{_≡_, sym, ap, _∙_}
-use mathlib.Core.Bool.{true, false}
+use mathlib.Core.Bool.{true}
 use borrow.Author.Tests.{lt-leb, le-leb, not-true, not-false}
 use lib.Dec.{leb}
-use lib.ListN.{length, length-map}
+use lib.ListN.{length, length-map, take}
 use Rattle.numbers.proofs.Walk.{length-of-mapped}
 use Rattle.sync_list.specs.Lists.{rowCount, listed, idOf, noneTwice}
 use Rattle.sync_list.specs.Sound.{rowsSound}
 use Rattle.sync_list.proofs.ListLaws.{listed-few, listed-rows, ids-listed}
 use Prim.Native.Nat.{ℕ, _≤_}
-use lib.ListN.{take}
 
 long : (c : tie.Start) → length (c .args .self .rows) ≡ rowCount
 long c = search (needs, length-of-mapped)

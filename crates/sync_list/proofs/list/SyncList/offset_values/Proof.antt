@@ -6,10 +6,9 @@ use Rattle.sync_list.proofs.list.SyncList.offset_values.Lts as lts
 use Rattle.correction.proofs.offset_value.Reads as offset-value-reads
 use Rattle.sync_list.proofs.list.SyncList.listed.Reads as listed-reads
 use Rattle.sync_list.proofs.row.Row.deviations.Reads as deviations-reads
-use Prim.Native.Nat.{_≤_, _<_, _-_, _+_, suc}
+use Prim.Native.Nat.{_≤_, _<_, _-_, suc, ℕ}
 use mathlib.Core.Path.{_≡_, refl, sym, ap, _∙_}
-use mathlib.Core.Bool.{true, false}
-use mathlib.Core.List.{[], _∷_, _++_, map, append-nil}
+use mathlib.Core.List.{[], _∷_}
 use native.Mathlib.Numerals.{add-one}
 use native.Mathlib.Omega.{arith}
 use lib.ListN.{length, getD, take, drop, length-set}
@@ -18,18 +17,14 @@ use mir.Val.{SFits}
 use mir.Facts.{toZ-ofZ}
 use Rattle.numbers.proofs.Walk.{rest, rest-end, came, length-of-mapped}
 use Rattle.correction.specs.Values.{offsetValue}
-use Rattle.correction.specs.declared.value.Value.{Value}
-use Rattle.correction.specs.declared.value.Value.the-variants.{Absent, Is}
 use Rattle.sync_list.specs.declared.row.Row.{Row}
 use Rattle.sync_list.specs.Rows.{blank, deviationsOf}
-use Rattle.sync_list.specs.Lists.{rowCount}
+use Rattle.sync_list.specs.Lists.{rowCount, listed}
 use Rattle.sync_list.proofs.ListLaws.{listed-few, listed-rows}
 use Rattle.sync_list.proofs.ValueLaws.{Gathered, gather-none, gather-one, gather-end}
 use borrow.Author.Tests.{le-leb}
 use Rattle.correction.specs.Terms.{mostIds}
 use Rattle.sync_list.specs.Values.{offsetValues}
-use Prim.Native.Nat.{ℕ}
-use Rattle.sync_list.specs.Lists.{listed}
 
 abbrev Inv-loop : tie.InvT-loop
 Inv-loop rows listed numbers₀ count₀ i₀ numbers count i =

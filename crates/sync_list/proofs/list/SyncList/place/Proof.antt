@@ -6,13 +6,11 @@ use Rattle.sync_list.proofs.list.SyncList.place.Lts as lts
 use Rattle.sync_list.proofs.list.SyncList.listed.Reads as listed-reads
 use Rattle.sync_list.proofs.places.ids_of.Reads as ids-of-reads
 use Rattle.sync_list.proofs.places.place_from.Reads as place-from-reads
-use mathlib.Core.Path.{_≡_, refl, sym, ap, _∙_}
-use lib.ListN.{length}
+use mathlib.Core.Path.{_≡_, _∙_}
+use lib.ListN.{length, length-map}
 use Rattle.numbers.proofs.Walk.{length-of-mapped}
-use Rattle.sync_list.specs.Lists.{rowCount}
+use Rattle.sync_list.specs.Lists.{rowCount, idOf}
 use native.Mathlib.Omega.{arith}
-use lib.ListN.{length-map}
-use Rattle.sync_list.specs.Lists.{idOf}
 use Rattle.sync_list.proofs.ListLaws.{listed-few, ids-place}
 
 long : (c : tie.Start) → length (c .args .self .rows) ≡ rowCount

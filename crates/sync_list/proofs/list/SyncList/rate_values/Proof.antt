@@ -9,9 +9,9 @@ use Rattle.sync_list.proofs.places.ids_of.Reads as ids-of-reads
 use Rattle.sync_list.proofs.places.place_from.Reads as place-from-reads
 use Rattle.sync_list.proofs.row.Row.blank.Reads as blank-reads
 use Rattle.sync_list.proofs.row.Row.deviations.Reads as deviations-reads
-use Prim.Native.Nat.{ℕ, _≤_, _<_, _-_, _+_, suc}
+use Prim.Native.Nat.{ℕ, _≤_, _<_, _-_, suc}
 use mathlib.Core.Path.{_≡_, refl, sym, ap, _∙_}
-use mathlib.Core.List.{List, [], _∷_, map}
+use mathlib.Core.List.{List, [], _∷_}
 use native.Mathlib.Numerals.{add-one}
 use native.Mathlib.Omega.{arith}
 use borrow.Author.Tests.{le-leb}

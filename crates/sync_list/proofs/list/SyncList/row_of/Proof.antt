@@ -6,13 +6,12 @@ use Rattle.sync_list.proofs.list.SyncList.row_of.Lts as lts
 use Rattle.sync_list.proofs.list.SyncList.listed.Reads as listed-reads
 use Rattle.sync_list.proofs.list.SyncList.place.Reads as place-reads
 use Rattle.sync_list.proofs.row.Row.blank.Reads as blank-reads
-use mathlib.Core.Path.{_≡_, refl, sym, ap, _∙_}
+use mathlib.Core.Path.{_≡_, _∙_}
 use lib.ListN.{length}
 use Rattle.numbers.proofs.Walk.{length-of-mapped}
-use Rattle.sync_list.specs.Lists.{rowCount}
+use Rattle.sync_list.specs.Lists.{rowCount, listedCount}
 use Prim.Native.Nat.{_<_}
 use native.Mathlib.Omega.{arith}
-use Rattle.sync_list.specs.Lists.{listedCount}
 use Rattle.sync_list.proofs.ListLaws.{listed-few, row-there, row-absent}
 
 long : (c : tie.Start) → length (c .args .self .rows) ≡ rowCount

@@ -7,16 +7,12 @@ use Rattle.sync_list.proofs.list.SyncList.listed.Reads as listed-reads
 use Rattle.sync_list.proofs.list.SyncList.place.Reads as place-reads
 use Rattle.sync_list.proofs.list.SyncList.row_of.Reads as row-of-reads
 use Rattle.sync_list.proofs.row.Row.with.Reads as with-reads
-use mathlib.Core.Path.{_≡_, refl, sym, ap, _∙_}
+use mathlib.Core.Path.{_≡_, sym, ap, _∙_}
 use lib.ListN.{length}
 use Rattle.numbers.proofs.Walk.{length-of-mapped}
-use Rattle.sync_list.specs.Lists.{rowCount}
-use mathlib.Core.Bool.{true, false}
-use borrow.Author.Tests.{lt-leb, le-leb}
-use lib.Dec.{leb}
+use Rattle.sync_list.specs.Lists.{rowCount, listed, rowIn}
+use borrow.Author.Tests.{le-leb}
 use native.Mathlib.Numerals.{add-one}
-use Rattle.sync_list.specs.declared.row.Row.{Row}
-use Rattle.sync_list.specs.Lists.{listed, placeOf, rowIn}
 use Rattle.sync_list.specs.Rows.{withMeasured}
 use Rattle.sync_list.proofs.ListLaws.{is-listed, not-listed, recorded-known, recorded-new}
 

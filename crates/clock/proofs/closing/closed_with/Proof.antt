@@ -1,0 +1,25 @@
+use borrow.Author.Needs.{needs}
+use Rattle.clock.proofs.closing.closed_with.Statement.{statement}
+use Rattle.clock.proofs.closing.closed_with.Tie as tie
+use Rattle.clock.proofs.closing.closed_with.Reads as reads
+use Rattle.clock.proofs.closing.closed_with.Lts as lts
+use Rattle.clock.proofs.state.Clock.open_cycle.Reads as open-cycle-reads
+use Rattle.clock.specs.declared.state.CycleOrNone.the-variants.{NoCycle, Is}
+
+open-cycle-requires : tie.Need-open-cycle-requires
+open-cycle-requires c κs = search needs
+
+returns : tie.Need-returns
+returns c =
+    let a = c .before .before .before .before .args in
+    λ i. record {
+      settings = a .clock .settings;
+      even = a .clock .even;
+      odd = a .clock .odd;
+      opened = NoCycle;
+      «last_closed» = Is (c .open-cycle .ensures i);
+      rate = a .rate;
+    }
+
+pub closed-with-spec : {M : Type 1} → statement M
+closed-with-spec = tie.close (tie.spec open-cycle-requires returns)

@@ -1,0 +1,215 @@
+-- A list is sound exactly when the measurements that it stands for, and its rows, are as they should be.
+use Prim.Native.Nat.{ℕ, _≤_, _<_}
+use mathlib.Core.Path.{_≡_, refl, sym, ap, subst, _∙_}
+use mathlib.Core.Bool.{Bool, true, false, false≢true, not, _&&_, _||_}
+use mathlib.Core.List.{List, [], _∷_, _++_, List·Memᴰ, List·Memᴰ·head, List·Memᴰ·tail, List·Memᴰ·cases-cons, List·Memᴰ·not-nil}
+use mathlib.Core.Logic.{_⊎_, inl, inr, _↔_}
+use native.Mathlib.Omega.{arith}
+use borrow.Author.Tests.{leb-true, le-leb, lt-ltb, le-ltb, ltb-false, not-true, not-false}
+use lib.Dec.{eqb, leb, ltb}
+use lib.IntN.{ℤ}
+use lib.ListN.{length, length-map, take}
+use lib.Seq.{length-take-le}
+use lib.Signed.{leZ}
+use Rattle.numbers.proofs.Truth.{both-true, true-both, neither}
+use Rattle.numbers.proofs.Walk.{cases}
+use Rattle.checksum.specs.declared.Channel.{Channel}
+use Rattle.checksum.specs.declared.Channel.the-variants.{A, B}
+use Rattle.frame.specs.Refusals.{notAnId}
+use Rattle.correction.specs.Microtick.{lowestDeviation, highestDeviation, isDeviation}
+use Rattle.sync_list.specs.declared.row.Measured.{Measured}
+use Rattle.sync_list.specs.declared.row.Measured.the-variants.{Nothing, Is}
+use Rattle.sync_list.specs.declared.row.Row.{Row}
+use Rattle.sync_list.specs.declared.list.SyncList.{SyncList}
+use Rattle.sync_list.specs.Rows.{isMeasured, on}
+use Rattle.sync_list.specs.Lists.{rowCount, listed, listedCount, idOf, idsOf, isAmong, noneTwice}
+use Rattle.sync_list.specs.Sound.{isInRange, rowSound, rowsSound, listSound}
+use Rattle.measurements.specs.Measurements.{Taken, taken, standsFor, differentIds}
+use Rattle.sync_list.proofs.RangeLaws.{Ranged, row-ranged}
+use Rattle.measurements.proofs.AmongLaws.{none-twice}
+use Rattle.measurements.proofs.RowLaws.{rows-ids}
+use Rattle.clock.proofs.SoundLaws.{count-within, rows-good, ids-different}
+use Rattle.clock_claims.specs.Typed.{TypedList}
+use Rattle.clock_claims.specs.Sound.{IsId, IsDeviation, OncePerChannel, GoodList, DifferentRows, GoodRows}
+use Rattle.clock_claims.proofs.Members.{Has, HasOne, members, has-member, among-member, member-among}
+
+-- ---- an ID, a deviation
+
+b-is-not-a : B ≡ A → ⊥
+b-is-not-a e = false≢true (ap isA e)
+  where
+    isA : Channel → Bool
+    isA A = true
+    isA B = false
+
+id-is : (id : ℕ) → notAnId id ≡ false → IsId id
+id-is id e = let h = neither (ltb id 1) (ltb 2047 id) e in (omega (arith, ltb-false id 1 (h .0)), omega (arith, ltb-false 2047 id (h .1)))
+
+is-id : (id : ℕ) → IsId id → notAnId id ≡ false
+is-id id h = rw (le-ltb id 1 (h .0), le-ltb 2047 id (h .1))
+
+-- ---- from the rows to what they stand for
+
+row-good : (rows : List Row) (row : Row) → rowsSound rows ≡ true → List·Memᴰ row rows → rowSound row ≡ true
+unfolding rowsSound
+row-good [] row s mem = absurd (List·Memᴰ·not-nil mem)
+row-good (r ∷ rows) row s mem = by (List·Memᴰ·cases-cons mem) (row-good rows row (both-true (rowSound r) (rowsSound rows) s .1))
+  where
+    by : (row ≡ r) ⊎ List·Memᴰ row rows → (List·Memᴰ row rows → rowSound row ≡ true) → rowSound row ≡ true
+    by (inl q) rest = ap rowSound q ∙ both-true (rowSound r) (rowsSound rows) s .0
+    by (inr m) rest = rest m
+
+on-ranged : (row : Row) (channel : Channel) → Ranged row → isInRange (on channel row) ≡ true
+on-ranged row A r = r .on-a
+on-ranged row B r = r .on-b
+
+-- a row's ID, and that it is measured
+row-id : (row : Row) → rowSound row ≡ true → IsId (idOf row)
+row-id row e = id-is (idOf row) (not-true (notAnId (idOf row)) (both-true (not (notAnId (idOf row))) _ e .0))
+
+row-measured : (row : Row) → rowSound row ≡ true → isMeasured (row .«on_a») || isMeasured (row .«on_b») ≡ true
+row-measured row e =
+    both-true (isMeasured (row .«on_a») || isMeasured (row .«on_b»)) _ (both-true (not (notAnId (idOf row))) _ e .1) .0
+
+has-ranged : (row : Row) (m : Taken) → rowSound row ≡ true → Has row m → IsDeviation (m .deviation)
+has-ranged row m e h =
+    both-true (leZ lowestDeviation (m .deviation)) (leZ (m .deviation) highestDeviation)
+    (sym (ap isInRange (h .there)) ∙ on-ranged row (m .channel) (row-ranged row e))
+
+module _ (rows : List Row) (s : rowsSound rows ≡ true) where
+  taken-ids : (m : Taken) → List·Memᴰ m (standsFor rows) → IsId (m .id)
+  taken-ids m mem =
+      let h = members rows m mem in
+      subst IsId (sym (h .has .id)) (row-id (h .row) (row-good rows (h .row) s (h .among)))
+
+  taken-ranged : (m : Taken) → List·Memᴰ m (standsFor rows) → IsDeviation (m .deviation)
+  taken-ranged m mem =
+      let h = members rows m mem in
+      has-ranged (h .row) m (row-good rows (h .row) s (h .among)) (h .has)
+
+  all-measured : (row : Row) → List·Memᴰ row rows → row .«on_a» ≡ Nothing → row .«on_b» ≡ Nothing → ⊥
+  all-measured row mem ea eb =
+      let there = row-measured row (row-good rows row s mem) in
+      false≢true (sym (ap (λ (x : Measured). isMeasured x || isMeasured (row .«on_b»)) ea ∙ ap isMeasured eb) ∙ there)
+
+-- no later measurement has the ID of a row that does not stand again
+once-row : (row : Row) (rows : List Row) → isAmong (idOf row) (idsOf rows) ≡ false → OncePerChannel (standsFor rows)
+    → OncePerChannel (taken (idOf row) A (row .«on_a») ++ (taken (idOf row) B (row .«on_b») ++ standsFor rows))
+once-row row rows new once = by (row .«on_a») (row .«on_b»)
+  where
+    other : (n : Taken) → List·Memᴰ n (standsFor rows) → n .id ≡ idOf row → ⊥
+    other n mem e =
+        let h = members rows n mem in
+        let there : isAmong (idOf row) (idsOf rows) ≡ true =
+        subst (λ (id : ℕ). isAmong id (idsOf rows) ≡ true) (sym (h .has .id) ∙ e) (member-among rows (h .row) (h .among)) in
+        false≢true (sym new ∙ there)
+
+    b-first : (d : Measured) → OncePerChannel (taken (idOf row) B d ++ standsFor rows)
+    b-first Nothing = once
+    b-first (Is d) = (λ n mem e c. other n mem e, once)
+
+    a-before : (d : Measured) (n : Taken) → List·Memᴰ n (taken (idOf row) B d ++ standsFor rows) → n .id ≡ idOf row → n .channel ≡ A → ⊥
+    a-before Nothing n mem e c = other n mem e
+    a-before (Is d) n mem e c = either (List·Memᴰ·cases-cons mem)
+      where
+        either : (n ≡ record { id = idOf row; channel = B; deviation = d .deviation .0 }) ⊎ List·Memᴰ n (standsFor rows) → ⊥
+        either (inl q) = b-is-not-a (sym (ap (λ (m : Taken). m .channel) q) ∙ c)
+        either (inr m) = other n m e
+
+    by : (a b : Measured) → OncePerChannel (taken (idOf row) A a ++ (taken (idOf row) B b ++ standsFor rows))
+    by Nothing b = b-first b
+    by (Is d) b = (λ n mem e c. a-before b n mem e c, b-first b)
+
+taken-once : (rows : List Row) → noneTwice (idsOf rows) ≡ true → OncePerChannel (standsFor rows)
+unfolding standsFor
+taken-once [] n = tt
+taken-once (row ∷ rows) n =
+    let h = none-twice (idOf row) (idsOf rows) n in
+    once-row row rows (h .0) (taken-once rows (h .1))
+
+rows-different : (rows : List Row) → noneTwice (idsOf rows) ≡ true → DifferentRows rows
+rows-different [] n = tt
+rows-different (row ∷ rows) n =
+    let h = none-twice (idOf row) (idsOf rows) n in (
+      λ later mem e.
+          false≢true (sym (h .0) ∙ subst (λ (id : ℕ). isAmong id (idsOf rows) ≡ true) e (member-among rows later mem)),
+      rows-different rows (h .1),
+    )
+
+-- ---- and back
+
+different-none-twice : (rows : List Row) → DifferentRows rows → noneTwice (idsOf rows) ≡ true
+unfolding noneTwice
+different-none-twice [] d = refl
+different-none-twice (row ∷ rows) (here, later) =
+    true-both (not (isAmong (idOf row) (idsOf rows))) (noneTwice (idsOf rows))
+    (cases (isAmong (idOf row) (idsOf rows))
+    (λ t. let found = among-member rows (idOf row) t in absurd (here (found .0) (found .1) (found .2)))
+    (λ t. ap not t))
+    (different-none-twice rows later)
+
+ranged-on : (row : Row) (channel : Channel) (x : Measured) → on channel row ≡ x → ((m : Taken) → Has row m → IsDeviation (m .deviation)) → isInRange x ≡ true
+ranged-on row channel Nothing e all = refl
+ranged-on row channel (Is d) e all =
+    let h = all (record { id = idOf row; channel = channel; deviation = d .deviation .0 }) (record { id = refl; there = e }) in
+    true-both (leZ lowestDeviation (d .deviation .0)) (leZ (d .deviation .0) highestDeviation) (h .0) (h .1)
+
+measured-one : (a b : Measured) → (a ≡ Nothing → b ≡ Nothing → ⊥) → isMeasured a || isMeasured b ≡ true
+measured-one Nothing Nothing h = absurd (h refl refl)
+measured-one Nothing (Is d) h = refl
+measured-one (Is d) b h = refl
+
+-- a row that is measured stands for a measurement, which has its ID
+id-by-one : (row : Row) (a b : Measured) → on A row ≡ a → on B row ≡ b → isMeasured a || isMeasured b ≡ true
+    → ((m : Taken) → Has row m → IsId (m .id)) → IsId (idOf row)
+id-by-one row (Is d) b ea eb h all = all (record { id = idOf row; channel = A; deviation = d .deviation .0 }) (record { id = refl; there = ea })
+id-by-one row Nothing (Is d) ea eb h all = all (record { id = idOf row; channel = B; deviation = d .deviation .0 }) (record { id = refl; there = eb })
+id-by-one row Nothing Nothing ea eb h all = absurd (false≢true h)
+
+row-sound-by : (row : Row) → (row .«on_a» ≡ Nothing → row .«on_b» ≡ Nothing → ⊥) → ((m : Taken) → Has row m → IsId (m .id))
+    → ((m : Taken) → Has row m → IsDeviation (m .deviation)) → rowSound row ≡ true
+row-sound-by row measured ids ranged =
+    let one = measured-one (row .«on_a») (row .«on_b») measured in
+    let id = id-by-one row (row .«on_a») (row .«on_b») refl refl one ids in
+    true-both (not (notAnId (idOf row))) _ (ap not (is-id (idOf row) id))
+    (true-both (isMeasured (row .«on_a») || isMeasured (row .«on_b»)) _ one
+    (true-both (isInRange (row .«on_a»)) (isInRange (row .«on_b»)) (ranged-on row A (row .«on_a») refl ranged) (ranged-on row B (row .«on_b») refl ranged)))
+
+rows-sound-by : (rows : List Row) → ((row : Row) → List·Memᴰ row rows → rowSound row ≡ true) → rowsSound rows ≡ true
+unfolding rowsSound
+rows-sound-by [] all = refl
+rows-sound-by (row ∷ rows) all =
+    true-both (rowSound row) (rowsSound rows) (all row (List·Memᴰ·head refl)) (rows-sound-by rows (λ r mem. all r (List·Memᴰ·tail mem)))
+
+-- ---- the list
+
+module _ (limit : ℕ) (l : SyncList) (typed : TypedList l) where
+  pub list-good : limit ≤ rowCount → listSound limit l ≡ true → GoodList limit (standsFor (listed l)) × GoodRows l
+  list-good small e =
+      let few = count-within limit l e in
+      let s = rows-good limit l e in
+      let n = ids-different limit l e in
+      let long : length (listed l) ≡ l .count = length-take-le (l .count) (l .rows) (omega arith) in (
+        record {
+          few =
+              subst (λ (ids : List ℕ). length ids ≤ limit) (sym (rows-ids (listed l) s n))
+              (subst (λ (k : ℕ). k ≤ limit) (sym (length-map (listed l) idOf ∙ long)) few);
+          ids = taken-ids (listed l) s;
+          once = taken-once (listed l) n;
+          ranged = taken-ranged (listed l) s;
+        },
+        record { counted = omega arith; measured = all-measured (listed l) s; different = rows-different (listed l) n },
+      )
+
+  pub good-list : GoodList limit (standsFor (listed l)) → GoodRows l → listSound limit l ≡ true
+  good-list g r =
+      let rows = listed l in
+      let s : rowsSound rows ≡ true =
+      rows-sound-by rows
+      (λ row mem.
+      row-sound-by row (r .measured row mem) (λ m h. g .ids m (has-member rows row m mem h)) (λ m h. g .ranged m (has-member rows row m mem h))) in
+      let n : noneTwice (idsOf rows) ≡ true = different-none-twice rows (r .different) in
+      let long : length rows ≡ l .count = length-take-le (l .count) (l .rows) (subst (λ (k : ℕ). l .count ≤ k) (sym typed) (r .counted)) in
+      let few : l .count ≤ limit =
+      subst (λ (k : ℕ). k ≤ limit) (length-map rows idOf ∙ long) (subst (λ (ids : List ℕ). length ids ≤ limit) (rows-ids rows s n) (g .few)) in
+      true-both (leb (l .count) limit) _ (le-leb (l .count) limit few) (true-both (rowsSound rows) (noneTwice (idsOf rows)) s n)

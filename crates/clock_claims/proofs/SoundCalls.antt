@@ -1,0 +1,117 @@
+-- Every accepted call returns a sound state.
+use Prim.Native.Nat.{ℕ, suc, _≤_, _<_}
+use mathlib.Core.Path.{_≡_, refl, sym, ap, subst, _∙_}
+use mathlib.Core.Bool.{Bool, true, false, false≢true, not, _&&_, _||_, cond}
+use mathlib.Core.List.{List, []}
+use native.Mathlib.Omega.{arith}
+use borrow.Author.Tests.{le-leb, leb-false, not-true, not-false}
+use lib.Dec.{leb, lit<}
+use lib.IntN.{ℤ, pos}
+use lib.ListN.{length}
+use Rattle.numbers.proofs.Truth.{both-true, true-both}
+use Rattle.numbers.proofs.Walk.{cases}
+use Rattle.refusal.specs.Refusal.{Line, _when_, first}
+use Rattle.refusal.proofs.FirstLaws.{first-zero, if-accepted}
+use Rattle.frame.specs.declared.header.Cycle.{Cycle}
+use Rattle.frame.specs.declared.header.Slot.{Slot}
+use Rattle.frame.specs.Refusals.{notAnId, cycleTooHigh}
+use Rattle.settings.specs.declared.Settings.{Settings}
+use Rattle.settings.specs.Sheet.{outOfRange, syncIdLimit, rateLimit}
+use Rattle.slot.specs.declared.status.Status.{Status}
+use Rattle.slot.specs.Sound as slot
+use Rattle.correction.specs.declared.microtick.Microtick.{Microtick}
+use Rattle.correction.specs.Microtick.{aboveTimeLimit}
+use Rattle.sync_list.specs.declared.list.SyncList.{SyncList}
+use Rattle.sync_list.specs.Lists.{empty, listed, noneTwice, idsOf}
+use Rattle.sync_list.specs.Sound.{rowsSound, listSound}
+use Rattle.clock.specs.declared.state.Clock.{Clock}
+use Rattle.clock.specs.declared.state.CycleOrNone.{CycleOrNone}
+use Rattle.clock.specs.declared.state.CycleOrNone.the-variants.{NoCycle, Is}
+use Rattle.clock.specs.State.{fresh, isThere, cycleIn, isOdd, openCycle, listOf, withList}
+use Rattle.clock.specs.Sound.{cycleSound, rateSound, sound}
+use Rattle.clock.specs.Loading as loading
+use Rattle.clock.specs.Opening as opening
+use Rattle.clock.specs.Opening.{openingRefusals, keepsEven, evenAfter, openedOn}
+use Rattle.clock.specs.Measuring as measuring
+use Rattle.clock.specs.Closing as closing
+use Rattle.clock.specs.Closing.{closingRefusals, rateFound, closedOn}
+use Rattle.clock.proofs.SoundLaws.{Clauses, clauses, sound-by, near-inside}
+use Rattle.clock.proofs.RangeLaws.{zero-near, found-near}
+use Rattle.clock_claims.specs.Sound.{LoadedSound, OpenedSound, MeasuredSound, ClosedSound}
+
+-- ---- loading
+
+empty-sound : (limit : ℕ) → listSound limit empty ≡ true
+unfolding rowsSound noneTwice
+empty-sound limit = true-both (leb 0 limit) true (le-leb 0 limit (omega arith)) refl
+
+pub fresh-sound : (s : Settings) → outOfRange s ≡ false → sound (fresh s) ≡ true
+fresh-sound s e =
+    sound-by (fresh s)
+    (record {
+      settings = e;
+      opened = refl;
+      last-closed = refl;
+      even = empty-sound (syncIdLimit s);
+      odd = empty-sound (syncIdLimit s);
+      rate = ap not (near-inside (rateLimit s) (pos 0) (zero-near (rateLimit s)));
+    })
+
+pub loaded-sound : LoadedSound
+loaded-sound settings r h e =
+    let zero : first (loading.loadRefusals settings) ≡ 0 = sym (ap (λ (t : loading.Told). t .number) (h .answers)) ∙ e in
+    let good : outOfRange settings ≡ false = first-zero 16 (outOfRange settings) [] zero .0 in
+    ap sound (h .leaves ∙ if-accepted _ (fresh settings) _ zero) ∙ fresh-sound settings good
+
+-- ---- opening
+
+pub opened-on-sound : (c : Clock) (cycle : Cycle) → sound c ≡ true → cycleTooHigh (cycle .0) ≡ false → sound (openedOn c cycle) ≡ true
+opened-on-sound c cycle e low =
+    let k = clauses c e in
+    sound-by (openedOn c cycle)
+    (record {
+      settings = k .settings;
+      opened = ap not low;
+      last-closed = k .last-closed;
+      even =
+          cases (keepsEven c cycle)
+          (λ t. ap (λ (b : Bool). listSound (syncIdLimit (c .settings)) (cond b (c .even) empty)) t ∙ k .even)
+          (λ t. ap (λ (b : Bool). listSound (syncIdLimit (c .settings)) (cond b (c .even) empty)) t ∙ empty-sound (syncIdLimit (c .settings)));
+      odd = empty-sound (syncIdLimit (c .settings));
+      rate = k .rate;
+    })
+
+pub opened-sound : OpenedSound
+opened-sound clock cycle r h e =
+    let zero : first (openingRefusals clock cycle) ≡ 0 = sym (h .answers) ∙ e in
+    let z23 = first-zero 22 (not (sound clock)) _ zero in
+    let z11 = first-zero 10 (cycleTooHigh (cycle .0)) _ (z23 .1) in
+    ap sound (h .leaves ∙ if-accepted _ (openedOn clock cycle) clock zero)
+    ∙ opened-on-sound clock cycle (not-false (sound clock) (z23 .0)) (z11 .0)
+
+-- ---- closing
+
+open-cycle-sound : (c : CycleOrNone) → cycleSound c ≡ true → isThere c ≡ true → cycleSound (Is (cycleIn c)) ≡ true
+open-cycle-sound NoCycle e there = absurd (false≢true there)
+open-cycle-sound (Is cycle) e there = e
+
+pub closed-on-sound : (c : Clock) → sound c ≡ true → isThere (c .opened) ≡ true → sound (closedOn c) ≡ true
+closed-on-sound c e there =
+    let k = clauses c e in
+    sound-by (closedOn c)
+    (record {
+      settings = k .settings;
+      opened = refl;
+      last-closed = open-cycle-sound (c .opened) (k .opened) there;
+      even = k .even;
+      odd = k .odd;
+      rate = ap not (near-inside (rateLimit (c .settings)) (rateFound c .value .0) (found-near c e));
+    })
+
+pub closed-sound : ClosedSound
+closed-sound clock offsetControl rateControl r h e =
+    let zero : first (closingRefusals clock offsetControl rateControl) ≡ 0 = sym (ap (λ (t : closing.Told). t .number) (h .answers)) ∙ e in
+    let z23 = first-zero 22 (not (sound clock)) _ zero in
+    let z18 = first-zero 17 (not (isThere (clock .opened))) _ (z23 .1) in
+    ap sound (h .leaves ∙ if-accepted _ (closedOn clock) clock zero)
+    ∙ closed-on-sound clock (not-false (sound clock) (z23 .0)) (not-false (isThere (clock .opened)) (z18 .0))

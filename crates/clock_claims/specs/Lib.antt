@@ -1,0 +1,4 @@
+pub mod Typed
+pub mod Answers
+pub mod Sound
+pub mod Histories

@@ -1,0 +1,2 @@
+pub mod Measurements
+pub mod Terms

@@ -1,0 +1,41 @@
+//! The listed cases of the clock, subject by subject.
+
+mod between;
+mod controls;
+mod cycles;
+mod damping;
+mod limits;
+mod listed;
+mod loading;
+mod measuring;
+mod midpoints;
+mod pairs;
+mod refusals;
+mod soundness;
+mod sync_limits;
+mod unlooked;
+
+use crate::plan::Plan;
+use crate::random::Random;
+
+pub use listed::NUMBERS;
+pub use measuring::UNSOUND_STATUSES;
+pub use unlooked::COUNTS;
+
+pub fn add(plan: &mut Plan, random: &mut Random) {
+    // First, as it needs the state of the start.
+    loading::add(plan, random);
+    listed::add(plan, random);
+    cycles::add(plan, random);
+    measuring::add(plan, random);
+    sync_limits::add(plan, random);
+    midpoints::add(plan, random);
+    limits::add(plan);
+    damping::add(plan);
+    controls::add(plan);
+    pairs::add(plan);
+    refusals::add(plan, random);
+    soundness::add(plan, random);
+    unlooked::add(plan, random);
+    between::add(plan, random);
+}

@@ -1,0 +1,165 @@
+//! Clock commands at random: lifelike cycles from a load on, or from a clock state that was put.
+
+use crate::channel::Channel;
+use crate::clock::Times;
+use crate::clock_faults::{fair_controls, fair_times, unsound, wrong_controls, wrong_times};
+use crate::clock_numbers::ClockNumbers;
+use crate::clock_scene::{fair_clock, settings_with_static, some_ids, sync_status};
+use crate::draft::fair_cycle;
+use crate::faults::{wrong_cycle, wrong_value};
+use crate::frame::HIGHEST_CYCLE;
+use crate::random::Random;
+use crate::scene::{fair_settings, Kind, Scene};
+use crate::script::Command;
+use crate::settings::{Settings, FIELDS, RATE_LIMIT, STATIC_WORDS};
+
+const MOST_CYCLES: usize = 5;
+
+/// The IDs of the sync frames around a node, and how much later they come in an odd cycle than in the even one.
+struct Cluster {
+    ids: Vec<u16>,
+    drift: i32,
+}
+
+pub fn episode(random: &mut Random) -> Vec<Command> {
+    let cluster = any_cluster(random);
+    let mut commands = vec![start(random), Command::Show];
+    let mut cycle = fair_cycle(random) & !1;
+    for _ in 0..random.between(1, MOST_CYCLES) {
+        commands.extend(one_cycle(random, &cluster, cycle));
+        cycle = next_cycle(random, cycle);
+    }
+    commands
+}
+
+fn any_cluster(random: &mut Random) -> Cluster {
+    let count = if random.one_in(4) { random.between(5, 16) } else { random.between(1, 4) };
+    let mut ids = some_ids(random, count);
+    ids.iter_mut().for_each(|id| *id = (*id - 1) % 1023 + 1);
+    Cluster { ids, drift: random.between(0, 60) as i32 - 30 }
+}
+
+/// A load as a rule.
+fn start(random: &mut Random) -> Command {
+    match random.below(20) {
+        0..=13 => Command::Load(any_settings(random)),
+        14 => {
+            let field = random.between(1, FIELDS);
+            Command::Load(any_settings(random).with_field(field, wrong_value(random, field)))
+        }
+        15..=17 => Command::put_clock(&ClockNumbers { open: false, ..fair_clock(random) }),
+        18 => Command::put_clock(&fair_clock(random)),
+        _ => {
+            let sound = fair_clock(random);
+            Command::put_clock(&unsound(random, sound))
+        }
+    }
+}
+
+/// Limits small enough to be met now and then.
+fn any_settings(random: &mut Random) -> Settings {
+    let fair = fair_settings(random);
+    if random.coin() {
+        return fair.with_field(RATE_LIMIT, random.between(0, 60) as u32);
+    }
+    fair
+}
+
+fn next_cycle(random: &mut Random, cycle: u8) -> u8 {
+    if random.one_in(10) {
+        return fair_cycle(random);
+    }
+    (cycle + 1) % (HIGHEST_CYCLE + 1)
+}
+
+fn one_cycle(random: &mut Random, cluster: &Cluster, cycle: u8) -> Vec<Command> {
+    let mut commands = vec![Command::OpenCycle(if random.one_in(24) { wrong_cycle(random) } else { cycle })];
+    if random.one_in(3) {
+        commands.push(Command::Show);
+    }
+    for id in &cluster.ids {
+        for channel in Channel::BOTH {
+            if !random.one_in(3) {
+                commands.extend(one_frame(random, cluster, *id, channel, cycle));
+            }
+        }
+    }
+    commands.push(noise(random));
+    commands.push(Command::CloseCycle(if random.one_in(16) { wrong_controls(random) } else { fair_controls(random) }));
+    commands.push(Command::Show);
+    commands
+}
+
+/// A status that was put, or a slot opened in which the frame arrives, and its measurement.
+fn one_frame(random: &mut Random, cluster: &Cluster, id: u16, channel: Channel, cycle: u8) -> Vec<Command> {
+    let cycle = if random.one_in(30) { fair_cycle(random) } else { cycle };
+    let mut commands = match random.below(10) {
+        0..=2 => vec![Command::PutStatus(sync_status(random, channel, id, cycle))],
+        _ => slot_of_frame(random, channel, id, cycle),
+    };
+    let times = match random.below(24) {
+        0 => wrong_times(random),
+        1 | 2 => fair_times(random),
+        _ => drifted(random, cluster.drift, cycle),
+    };
+    commands.push(Command::Measure(times));
+    if random.one_in(20) {
+        commands.extend([Command::Measure(times), Command::Show]);
+    }
+    commands
+}
+
+fn slot_of_frame(random: &mut Random, channel: Channel, id: u16, cycle: u8) -> Vec<Command> {
+    let settings = settings_with_static(random, id).with_field(STATIC_WORDS, random.below(3) as u32);
+    let slot = Scene { settings, channel, slot: id, cycle, kind: Kind::Static };
+    let mut good = slot.good(random);
+    good.indicators.sync |= !random.one_in(20);
+    good.indicators.startup &= good.indicators.sync;
+    let mut commands = vec![slot.open(), Command::Arrived(good.bytes())];
+    if random.one_in(20) {
+        commands.remove(1);
+    }
+    commands
+}
+
+/// Odd cycles differ from even ones by the drift.
+fn drifted(random: &mut Random, drift: i32, cycle: u8) -> Times {
+    let action_point = random.between(2_000, 60_000) as i32;
+    let late = random.between(0, 40) as i32 + 250 + i32::from(cycle % 2) * drift;
+    Times { observed: (action_point + late) as u32, action_point: action_point as u32 }
+}
+
+/// What shouldn't come in the middle of a cycle, or a showing.
+fn noise(random: &mut Random) -> Command {
+    match random.below(24) {
+        0 => Command::OpenCycle(fair_cycle(random)),
+        1 => Command::CloseCycle(fair_controls(random)),
+        2 => start(random),
+        _ => Command::Show,
+    }
+}
+
+#[cfg(test)]
+mod tests {
+    use super::*;
+    use crate::replay::Replay;
+
+    /// Most commands are accepted, terms of every kind are found, and refusals turn up as well.
+    #[test]
+    fn most_clock_commands_are_accepted() {
+        let mut random = Random::from_seed(21);
+        let mut script = Vec::new();
+        for _ in 0..300 {
+            episode(&mut random).iter().for_each(|command| command.append_to(&mut script));
+        }
+        let lines: Vec<String> = Replay::of(&script).map(|outcome| outcome.line()).collect();
+        let count = |start: &str| lines.iter().filter(|line| line.starts_with(start)).count();
+        for entry in ["open", "measure", "close"] {
+            assert!(2 * count(&format!("{entry} 0")) > count(entry), "{entry}");
+        }
+        for refused in ["measure 15", "measure 16", "measure 22", "measure 14", "measure 20", "close 18", "open 19"] {
+            assert!(count(refused) > 0, "{refused}");
+        }
+        assert_eq!(count("script error"), 0);
+    }
+}

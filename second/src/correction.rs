@@ -1,0 +1,120 @@
+//! Midpoint, damping and limit by 01 "Clock". All in i64, where nothing of this can overflow.
+
+/// A term found from at least one value.
+#[derive(Clone, Debug, PartialEq, Eq)]
+pub struct Found {
+    pub values: Vec<i64>,
+    /// For the rate: the midpoint plus the stored rate, before damping.
+    pub undamped: i64,
+    /// 0 for the offset, which isn't damped.
+    pub damping: i64,
+    pub term: i64,
+    pub limit: i64,
+}
+
+impl Found {
+    /// The midpoint as it is.
+    pub fn offset(values: Vec<i64>, limit: i64) -> Found {
+        let term = midpoint(&values);
+        Found { values, undamped: term, damping: 0, term, limit }
+    }
+
+    /// The midpoint plus the stored rate, damped.
+    pub fn rate(values: Vec<i64>, stored: i64, damping: i64, limit: i64) -> Found {
+        let undamped = midpoint(&values) + stored;
+        Found { values, undamped, damping, term: damped(undamped, damping), limit }
+    }
+
+    pub fn within_limit(&self) -> i64 {
+        self.term.clamp(-self.limit, self.limit)
+    }
+
+    pub fn is_limited(&self) -> bool {
+        self.within_limit() != self.term
+    }
+}
+
+/// How many of n values are discarded at each end.
+fn discarded(n: usize) -> usize {
+    match n {
+        0..=2 => 0,
+        3..=7 => 1,
+        _ => 2,
+    }
+}
+
+pub fn midpoint(values: &[i64]) -> i64 {
+    halved(sum_of_ends(values))
+}
+
+/// The sum of the smallest and largest value left, which are one if there is only one.
+pub fn sum_of_ends(values: &[i64]) -> i64 {
+    let mut sorted = values.to_vec();
+    sorted.sort_unstable();
+    let ends = discarded(sorted.len());
+    let left = &sorted[ends..sorted.len() - ends];
+    left[0] + left[left.len() - 1]
+}
+
+/// Division drops the fraction toward zero, as 01 asks for; a shift would not.
+pub fn halved(sum: i64) -> i64 {
+    sum / 2
+}
+
+/// Nearer to 0 by d, and 0 where that would go beyond it.
+fn damped(x: i64, d: i64) -> i64 {
+    x.signum() * (x.abs() - d).max(0)
+}
+
+#[cfg(test)]
+mod tests {
+    use super::*;
+
+    #[test]
+    fn midpoints_of_01() {
+        assert_eq!(midpoint(&[15, 13, 6, -3, -5]), 5);
+        assert_eq!(midpoint(&[8, 9]), 8);
+        assert_eq!(midpoint(&[8, -25]), -8);
+        assert_eq!(midpoint(&[-7, 100, -10]), -7);
+        assert_eq!(midpoint(&[1, 2, 3, 4, 5, 6, 7]), 4);
+        assert_eq!(midpoint(&[1, 2, 3, 4, 5, 6, 7, 8]), 4);
+    }
+
+    #[test]
+    fn rates_of_01() {
+        let first = Found::rate(vec![10], 5, 2, 10);
+        assert_eq!((first.term, first.within_limit(), first.is_limited()), (13, 10, true));
+        let next = Found::rate(vec![0], 10, 2, 10);
+        assert_eq!((next.within_limit(), next.is_limited()), (8, false));
+        assert_eq!(Found::rate(vec![0], 1, 2, 10).within_limit(), 0);
+    }
+
+    #[test]
+    fn halves_by_hand() {
+        for (sum, half) in [(-17, -8), (17, 8), (-1, 0), (1, 0), (-2, -1), (0, 0)] {
+            assert_eq!(halved(sum), half);
+        }
+    }
+
+    #[test]
+    fn damping_by_hand() {
+        for (x, by_2) in [(4, 2), (3, 1), (2, 0), (1, 0), (0, 0), (-1, 0), (-2, 0), (-3, -1), (-4, -2)] {
+            assert_eq!(damped(x, 2), by_2);
+            assert_eq!(damped(x, 0), x);
+        }
+    }
+
+    #[test]
+    fn limits_act_at_both_ends() {
+        for (value, within, limited) in [(11, 10, true), (10, 10, false), (-10, -10, false), (-11, -10, true)] {
+            let found = Found::offset(vec![value], 10);
+            assert_eq!((found.within_limit(), found.is_limited()), (within, limited));
+        }
+    }
+
+    #[test]
+    fn numbers_discarded() {
+        let ends: Vec<usize> = (1..=16).map(discarded).collect();
+        assert_eq!(ends, [0, 0, 1, 1, 1, 1, 1, 2, 2, 2, 2, 2, 2, 2, 2, 2]);
+    }
+}

@@ -1,0 +1,95 @@
+//! Script errors in the commands of the clock, and bytes in them that look wrong but are no error.
+
+use super::{bytes_of, small, with_byte, Small, SENDS_SYNC, SETTINGS, STATUS_SHOWN};
+use crate::clock::Times;
+use crate::clock_numbers::{ClockNumbers, ListNumbers};
+use crate::clock_scene::{list, row};
+use crate::closing::Controls;
+use crate::script::Command;
+
+/// Where a byte stands in `K`, the letter at place 0.
+const OPEN: usize = 46;
+const CYCLE: usize = 47;
+const CLOSED: usize = 48;
+const LAST: usize = 49;
+const EVEN_COUNT: usize = 54;
+const FIRST_SEEN: usize = 57;
+const ODD_COUNT: usize = 220;
+const SIZE: usize = 386;
+
+const CLOCK_LINE: &str = "clock 1 2 3 4 5 6 7 8 9 0 11 1 1 4 1 3 -6 EVEN 1 7 3 -8 9 ODD 0\n";
+
+/// Cycle 4 open with one ID seen on both channels, cycle 3 closed last.
+fn clock() -> ClockNumbers {
+    let lists = [list(&[row(7, Some(-8), Some(9))]), ListNumbers::default()];
+    ClockNumbers { settings: SETTINGS, open: true, cycle: 4, closed: true, last: 3, rate: -6, lists }
+}
+
+/// Commands of every letter with their lines, on the status in which a frame is kept that is no sync frame. The clock
+/// state of all zeros is held before them and behind them.
+pub(super) fn good_ones() -> Vec<(Command, String)> {
+    let times = Times { observed: 9, action_point: 2 };
+    let commands = [
+        (Command::OpenCycle(255), "open 23\n"),
+        (Command::Load(SETTINGS), "load 0 0\n"),
+        (Command::Measure(times), "measure 18 0\n"),
+        (Command::OpenCycle(4), "open 0\n"),
+        (Command::Measure(times), "measure 20 0\n"),
+        (Command::CloseCycle(Controls { offset: -128, rate: 127 }), "close 21 0 0 0 0 0 0 0\n"),
+        (Command::put_clock(&clock()), "clock put\n"),
+        (Command::CloseCycle(Controls { offset: 1, rate: -1 }), "close 0 4 -15 0 0 0 0 1\n"),
+        (Command::Load(SETTINGS.with_field(4, 0)), "load 17 4\n"),
+        (Command::CloseCycle(Controls::NONE), "close 23 0 0 0 0 0 0 0\n"),
+    ];
+    commands.map(|(command, line)| (command, line.to_string())).into()
+}
+
+/// Every place at which the shorter commands can be cut off, and for `K` all up to the first row and some in the rows.
+pub(super) fn ends_inside() -> Vec<Small> {
+    let times = Times { observed: 9, action_point: 2 };
+    let shorter =
+        [Command::Load(SETTINGS), Command::OpenCycle(4), Command::Measure(times), Command::CloseCycle(Controls::NONE)];
+    let mut all = Vec::new();
+    for script in shorter.map(|command| bytes_of(&command)) {
+        all.extend((1..script.len()).map(|size| small(&script[..size], "script error at 0\n")));
+    }
+    // Rows that are not listed must be there as well.
+    let put = bytes_of(&Command::put_clock(&clock()));
+    let in_rows = (EVEN_COUNT + 1..SIZE).filter(|size| size % 11 < 2).chain([ODD_COUNT, ODD_COUNT + 1, SIZE - 1]);
+    all.extend((1..=EVEN_COUNT).chain(in_rows).map(|size| small(&put[..size], "script error at 0\n")));
+    all
+}
+
+/// Switches that are neither 0 nor 1.
+pub(super) fn wrong_switches() -> Vec<Small> {
+    let (load, put) = (Command::Load(SETTINGS), Command::put_clock(&clock()));
+    let off = Command::put_clock(&ClockNumbers { open: false, closed: false, ..clock() });
+    let mut all = Vec::new();
+    for (command, place) in
+        [(&load, SENDS_SYNC), (&put, SENDS_SYNC), (&put, OPEN), (&put, CLOSED), (&off, OPEN), (&off, CLOSED)]
+    {
+        all.extend([2, 3, 128, 255].map(|byte| with_byte(command, place, byte, "script error at 2\n")));
+    }
+    all
+}
+
+/// Cycles, counts and unnamed bits may be any.
+pub(super) fn no_errors() -> Vec<Small> {
+    let put = Command::put_clock(&clock());
+    let off = Command::put_clock(&ClockNumbers { open: false, closed: false, ..clock() });
+    let off_line = CLOCK_LINE.replace("1 4 1 3 -6", "0 0 0 0 -6");
+    let counted = format!("ODD 255{}", " 0 0 0 0".repeat(15));
+    let cases = [
+        (&put, CYCLE, 255, CLOCK_LINE.replace("1 4 1 3", "1 255 1 3")),
+        (&put, LAST, 64, CLOCK_LINE.replace("1 4 1 3", "1 4 1 64")),
+        (&put, EVEN_COUNT, 0, CLOCK_LINE.replace("EVEN 1 7 3 -8 9", "EVEN 0")),
+        (&put, ODD_COUNT, 255, CLOCK_LINE.replace("ODD 0", &counted)),
+        (&put, FIRST_SEEN, 0b1111_1101, CLOCK_LINE.replace("7 3 -8 9", "7 1 -8 0")),
+        (&put, FIRST_SEEN, 0b1000_0000, CLOCK_LINE.replace("7 3 -8 9", "7 0 0 0")),
+        (&off, CYCLE, 255, off_line.clone()),
+        (&off, LAST, 2, off_line),
+    ];
+    let shown =
+        |(command, place, byte, line)| with_byte(command, place, byte, &format!("clock put\n{line}{STATUS_SHOWN}"));
+    cases.map(shown).into()
+}
