@@ -2,4 +2,9 @@ pub mod Answers
 pub mod Members
 pub mod Lists
 pub mod Sound
+pub mod Recorded
 pub mod SoundCalls
+pub mod InUse
+pub mod TakenLaws
+pub mod Follows
+pub mod Histories

@@ -1,14 +1,13 @@
 -- A list is sound exactly when the measurements that it stands for, and its rows, are as they should be.
-use Prim.Native.Nat.{ℕ, _≤_, _<_}
+use Prim.Native.Nat.{ℕ, _≤_}
 use mathlib.Core.Path.{_≡_, refl, sym, ap, subst, _∙_}
-use mathlib.Core.Bool.{Bool, true, false, false≢true, not, _&&_, _||_}
+use mathlib.Core.Bool.{Bool, true, false, false≢true, not, _||_}
 use mathlib.Core.List.{List, [], _∷_, _++_, List·Memᴰ, List·Memᴰ·head, List·Memᴰ·tail, List·Memᴰ·cases-cons, List·Memᴰ·not-nil}
-use mathlib.Core.Logic.{_⊎_, inl, inr, _↔_}
+use mathlib.Core.Logic.{_⊎_, inl, inr}
 use native.Mathlib.Omega.{arith}
-use borrow.Author.Tests.{leb-true, le-leb, lt-ltb, le-ltb, ltb-false, not-true, not-false}
-use lib.Dec.{eqb, leb, ltb}
-use lib.IntN.{ℤ}
-use lib.ListN.{length, length-map, take}
+use borrow.Author.Tests.{le-leb, le-ltb, ltb-false, not-true}
+use lib.Dec.{leb, ltb}
+use lib.ListN.{length, length-map}
 use lib.Seq.{length-take-le}
 use lib.Signed.{leZ}
 use Rattle.numbers.proofs.Truth.{both-true, true-both, neither}
@@ -16,22 +15,22 @@ use Rattle.numbers.proofs.Walk.{cases}
 use Rattle.checksum.specs.declared.Channel.{Channel}
 use Rattle.checksum.specs.declared.Channel.the-variants.{A, B}
 use Rattle.frame.specs.Refusals.{notAnId}
-use Rattle.correction.specs.Microtick.{lowestDeviation, highestDeviation, isDeviation}
+use Rattle.correction.specs.Microtick.{lowestDeviation, highestDeviation}
 use Rattle.sync_list.specs.declared.row.Measured.{Measured}
 use Rattle.sync_list.specs.declared.row.Measured.the-variants.{Nothing, Is}
 use Rattle.sync_list.specs.declared.row.Row.{Row}
 use Rattle.sync_list.specs.declared.list.SyncList.{SyncList}
 use Rattle.sync_list.specs.Rows.{isMeasured, on}
-use Rattle.sync_list.specs.Lists.{rowCount, listed, listedCount, idOf, idsOf, isAmong, noneTwice}
+use Rattle.sync_list.specs.Lists.{rowCount, listed, idOf, idsOf, isAmong, noneTwice}
 use Rattle.sync_list.specs.Sound.{isInRange, rowSound, rowsSound, listSound}
-use Rattle.measurements.specs.Measurements.{Taken, taken, standsFor, differentIds}
+use Rattle.measurements.specs.Measurements.{Taken, taken, standsFor}
 use Rattle.sync_list.proofs.RangeLaws.{Ranged, row-ranged}
 use Rattle.measurements.proofs.AmongLaws.{none-twice}
 use Rattle.measurements.proofs.RowLaws.{rows-ids}
 use Rattle.clock.proofs.SoundLaws.{count-within, rows-good, ids-different}
 use Rattle.clock_claims.specs.Typed.{TypedList}
 use Rattle.clock_claims.specs.Sound.{IsId, IsDeviation, OncePerChannel, GoodList, DifferentRows, GoodRows}
-use Rattle.clock_claims.proofs.Members.{Has, HasOne, members, has-member, among-member, member-among}
+use Rattle.clock_claims.proofs.Members.{Has, members, has-member, among-member, member-among}
 
 -- ---- an ID, a deviation
 

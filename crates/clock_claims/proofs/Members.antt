@@ -1,7 +1,7 @@
 -- The measurements that rows stand for, one by one.
 use Prim.Native.Nat.{ℕ}
 use mathlib.Core.Path.{_≡_, refl, sym, ap, subst, _∙_}
-use mathlib.Core.Bool.{Bool, true, false, false≢true, not, _||_}
+use mathlib.Core.Bool.{true, false, false≢true, _||_}
 use mathlib.Core.List.{List, [], _∷_, _++_, List·Memᴰ, List·Memᴰ·head, List·Memᴰ·tail, List·Memᴰ·append-cases, List·Memᴰ·cases-cons, List·Memᴰ·not-nil, Memᴰ·append-left, Memᴰ·append-right}
 use mathlib.Core.Logic.{_⊎_, inl, inr}
 use borrow.Author.Tests.{eq-eqb, eqb-true}
@@ -11,7 +11,6 @@ use Rattle.checksum.specs.declared.Channel.{Channel}
 use Rattle.checksum.specs.declared.Channel.the-variants.{A, B}
 use Rattle.sync_list.specs.declared.row.Measured.{Measured}
 use Rattle.sync_list.specs.declared.row.Measured.the-variants.{Nothing, Is}
-use Rattle.sync_list.specs.declared.row.Measurement.{Measurement}
 use Rattle.sync_list.specs.declared.row.Row.{Row}
 use Rattle.sync_list.specs.Rows.{on}
 use Rattle.sync_list.specs.Lists.{idOf, idsOf, isAmong}

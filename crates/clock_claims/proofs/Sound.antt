@@ -2,15 +2,13 @@
 use Prim.Native.Nat.{ℕ, _≤_}
 use mathlib.Core.Path.{_≡_, refl, sym, ap, _∙_}
 use mathlib.Core.Bool.{true, false, not}
-use mathlib.Core.Logic.{_↔_}
 use native.Mathlib.Omega.{arith}
 use borrow.Author.Tests.{eq-eqb, eqb-true, ltb-false, le-ltb, not-true, not-false}
 use lib.Dec.{eqb, lit<}
-use lib.IntN.{ℤ, pos, negℤ}
+use lib.IntN.{pos, negℤ}
 use lib.Signed.{leZ, ltZ}
-use Rattle.numbers.proofs.Signed.{up-neg, dn-neg, le-sums, sums-le, sums-nlt, nlt-sums}
+use Rattle.numbers.proofs.Signed.{le-sums, sums-le, sums-nlt, nlt-sums}
 use Rattle.numbers.proofs.Truth.{neither}
-use Rattle.frame.specs.declared.header.Cycle.{Cycle}
 use Rattle.frame.specs.Refusals.{cycleTooHigh}
 use Rattle.settings.specs.declared.Settings.{Settings}
 use Rattle.settings.specs.Sheet.{firstOutside, firstOutOfRange, outOfRange, syncIdLimit, rateLimit}
@@ -21,12 +19,9 @@ use Rattle.correction.specs.Terms.{isOutside}
 use Rattle.sync_list.specs.Lists.{rowCount}
 use Rattle.clock.specs.declared.state.CycleOrNone.{CycleOrNone}
 use Rattle.clock.specs.declared.state.CycleOrNone.the-variants.{NoCycle, Is}
-use Rattle.clock.specs.declared.state.Clock.{Clock}
-use Rattle.clock.specs.State.{cycleIn, isThere}
-use Rattle.clock.specs.Sound.{cycleSound, rateSound, sound}
-use Rattle.clock.proofs.SoundLaws.{Clauses, clauses, sound-by, at-most}
-use Rattle.clock_claims.specs.Typed.{TypedClock}
-use Rattle.clock_claims.specs.Sound.{CycleAtMost63, SoundClock, SoundExactly, NoClockUnsound}
+use Rattle.clock.specs.Sound.{cycleSound, rateSound}
+use Rattle.clock.proofs.SoundLaws.{clauses, sound-by, at-most}
+use Rattle.clock_claims.specs.Sound.{CycleAtMost63, SoundExactly, NoClockUnsound}
 use Rattle.clock_claims.proofs.Lists.{list-good, good-list}
 
 -- ---- settings

@@ -1,42 +1,42 @@
 -- Every accepted call returns a sound state.
-use Prim.Native.Nat.{ℕ, suc, _≤_, _<_}
-use mathlib.Core.Path.{_≡_, refl, sym, ap, subst, _∙_}
+use Prim.Native.Nat.{ℕ, _<_}
+use mathlib.Core.Path.{_≡_, refl, sym, ap, _∙_}
 use mathlib.Core.Bool.{Bool, true, false, false≢true, not, _&&_, _||_, cond}
-use mathlib.Core.List.{List, []}
+use mathlib.Core.List.{[]}
 use native.Mathlib.Omega.{arith}
-use borrow.Author.Tests.{le-leb, leb-false, not-true, not-false}
+use borrow.Author.Tests.{le-leb, not-false}
 use lib.Dec.{leb, lit<}
-use lib.IntN.{ℤ, pos}
-use lib.ListN.{length}
-use Rattle.numbers.proofs.Truth.{both-true, true-both}
+use lib.IntN.{pos}
+use Rattle.numbers.proofs.Truth.{both-true, true-both, neither}
 use Rattle.numbers.proofs.Walk.{cases}
-use Rattle.refusal.specs.Refusal.{Line, _when_, first}
+use Rattle.refusal.specs.Refusal.{first}
 use Rattle.refusal.proofs.FirstLaws.{first-zero, if-accepted}
 use Rattle.frame.specs.declared.header.Cycle.{Cycle}
-use Rattle.frame.specs.declared.header.Slot.{Slot}
-use Rattle.frame.specs.Refusals.{notAnId, cycleTooHigh}
+use Rattle.frame.specs.Refusals.{cycleTooHigh}
 use Rattle.settings.specs.declared.Settings.{Settings}
 use Rattle.settings.specs.Sheet.{outOfRange, syncIdLimit, rateLimit}
 use Rattle.slot.specs.declared.status.Status.{Status}
+use Rattle.slot.specs.Judging.{isFrame}
 use Rattle.slot.specs.Sound as slot
 use Rattle.correction.specs.declared.microtick.Microtick.{Microtick}
 use Rattle.correction.specs.Microtick.{aboveTimeLimit}
-use Rattle.sync_list.specs.declared.list.SyncList.{SyncList}
-use Rattle.sync_list.specs.Lists.{empty, listed, noneTwice, idsOf}
+use Rattle.sync_list.specs.Lists.{empty, noneTwice, recorded}
 use Rattle.sync_list.specs.Sound.{rowsSound, listSound}
 use Rattle.clock.specs.declared.state.Clock.{Clock}
 use Rattle.clock.specs.declared.state.CycleOrNone.{CycleOrNone}
 use Rattle.clock.specs.declared.state.CycleOrNone.the-variants.{NoCycle, Is}
-use Rattle.clock.specs.State.{fresh, isThere, cycleIn, isOdd, openCycle, listOf, withList}
-use Rattle.clock.specs.Sound.{cycleSound, rateSound, sound}
+use Rattle.clock.specs.State.{fresh, isThere, cycleIn, openCycle, listOf}
+use Rattle.clock.specs.Sound.{cycleSound, sound}
 use Rattle.clock.specs.Loading as loading
-use Rattle.clock.specs.Opening as opening
-use Rattle.clock.specs.Opening.{openingRefusals, keepsEven, evenAfter, openedOn}
+use Rattle.clock.specs.Opening.{openingRefusals, keepsEven, openedOn}
 use Rattle.clock.specs.Measuring as measuring
+use Rattle.clock.specs.Measuring.{frameOf, noSyncFrame, otherCycle, measuredAlready, listFull, deviationBy, measureRefusals, measuredOn}
 use Rattle.clock.specs.Closing as closing
 use Rattle.clock.specs.Closing.{closingRefusals, rateFound, closedOn}
-use Rattle.clock.proofs.SoundLaws.{Clauses, clauses, sound-by, near-inside}
-use Rattle.clock.proofs.RangeLaws.{zero-near, found-near}
+use Rattle.clock.proofs.SoundLaws.{clauses, sound-by, near-inside, at-most}
+use Rattle.clock.proofs.RangeLaws.{zero-near, found-near, deviation-ranged}
+use Rattle.clock_claims.specs.Typed.{TypedList}
+use Rattle.clock_claims.proofs.Recorded.{frame-id, recorded-good, with-list-sound, list-of-sound, list-of-typed}
 use Rattle.clock_claims.specs.Sound.{LoadedSound, OpenedSound, MeasuredSound, ClosedSound}
 
 -- ---- loading
@@ -88,6 +88,38 @@ opened-sound clock cycle r h e =
     let z11 = first-zero 10 (cycleTooHigh (cycle .0)) _ (z23 .1) in
     ap sound (h .leaves ∙ if-accepted _ (openedOn clock cycle) clock zero)
     ∙ opened-on-sound clock cycle (not-false (sound clock) (z23 .0)) (z11 .0)
+
+-- ---- measuring
+
+has-frame : (s : Status) → noSyncFrame s ≡ false → isFrame (s .kept) ≡ true
+has-frame s e = not-false (isFrame (s .kept)) (neither (not (isFrame (s .kept))) _ e .0)
+
+module _ (c : Clock) (status : Status) (observed actionPoint : Microtick) (even : TypedList (c .even)) (odd : TypedList (c .odd)) where
+  pub measured-on-sound : first (measureRefusals c status observed actionPoint) ≡ 0 → sound (measuredOn c status (deviationBy c status observed actionPoint)) ≡ true
+  measured-on-sound zero =
+      let z23 = first-zero 22 (not (sound c && slot.sound status)) _ zero in
+      let z18 = first-zero 17 (not (isThere (c .opened))) _ (z23 .1) in
+      let z14 = first-zero 13 (aboveTimeLimit (observed .0) || aboveTimeLimit (actionPoint .0)) _ (z18 .1) in
+      let z20 = first-zero 19 (noSyncFrame status) _ (z14 .1) in
+      let z22 = first-zero 21 (otherCycle c status) _ (z20 .1) in
+      let z16 = first-zero 15 (measuredAlready c status) _ (z22 .1) in
+      let z15 = first-zero 14 (listFull c status) _ (z16 .1) in
+      let both = both-true (sound c) (slot.sound status) (not-false (sound c && slot.sound status) (z23 .0)) in
+      let times = neither (aboveTimeLimit (observed .0)) (aboveTimeLimit (actionPoint .0)) (z14 .0) in
+      let k = clauses c (both .0) in
+      let l = listOf (openCycle c) c in
+      let d = deviationBy c status observed actionPoint in
+      with-list-sound c (openCycle c) (recorded (frameOf status .id) (status .channel) (record { deviation = record { 0 = d } }) l) (both .0)
+      (recorded-good (syncIdLimit (c .settings)) l (frameOf status .id) (list-of-typed c (openCycle c) even odd) (at-most (c .settings) (k .settings) 4 (lit< tt))
+      (list-of-sound c (openCycle c) (both .0)) (z15 .0) (status .channel) (record { deviation = record { 0 = d } })
+      (frame-id status (both .1) (has-frame status (z20 .0)))
+      (deviation-ranged c status observed actionPoint (k .settings) (times .0) (times .1)))
+
+pub measured-sound : MeasuredSound
+measured-sound clock status observed actionPoint r typed h e =
+    let zero : first (measureRefusals clock status observed actionPoint) ≡ 0 = sym (ap (λ (t : measuring.Told). t .number) (h .answers)) ∙ e in
+    ap sound (h .leaves ∙ if-accepted _ (measuredOn clock status (deviationBy clock status observed actionPoint)) clock zero)
+    ∙ measured-on-sound clock status observed actionPoint (typed .even) (typed .odd) zero
 
 -- ---- closing
 

@@ -1,10 +1,10 @@
 -- Claims about whole sequences of calls, loads and refused calls among them. The customer's second condition asks that deviations and both
 -- corrections are those of 01's rules, and that loading settings leaves no earlier measurement in use. So the rule of a history names
 -- no clock state: from the calls alone it works out the measurements in use, each with the cycle it was taken in.
-use Prim.Native.Nat.{ℕ, suc, _-_, _%_}
+use Prim.Native.Nat.{ℕ, _-_, _%_}
 use mathlib.Core.Path.{_≡_}
-use mathlib.Core.Bool.{Bool, true, false, not, _&&_, _||_, cond}
-use mathlib.Core.List.{List, [], _∷_, _++_, map}
+use mathlib.Core.Bool.{Bool, false, not, _&&_, _||_, cond}
+use mathlib.Core.List.{List, [], _∷_}
 use lib.Dec.{eqb, leb}
 use lib.IntN.{ℤ, pos}
 use lib.ListN.{length}
@@ -273,3 +273,30 @@ pub record HoldsSince (s : Since) (c : Clock) : Type 0 where
 abbrev pub Holds : Past → Clock → Type 0
 Holds nothing c = c ≡ noClock
 Holds (since s) c = HoldsSince s c
+
+-- From the all-zero state on, after any sequence of calls: every answer and report is the history's, and the state holds what has happened.
+abbrev pub Histories : Type 0
+Histories =
+    (calls : List Call) (answers : List Answer) (d : Clock) → Makes-all noClock calls answers d
+    → (answers ≡ answersOf nothing calls) × Holds (pastOf nothing calls) d
+
+-- "loading settings leaves no earlier measurement in use": whatever was called before, on whatever states, two sequences that agree from
+-- their last load on give the same answers and reports from there, and the same state.
+abbrev pub SinceLoad : Type 0
+SinceLoad =
+    (c c′ m m′ d d′ : Clock) (before before′ calls : List Call) (earlier earlier′ answers answers′ : List Answer) (settings : Settings)
+    → Makes-all c before earlier m → Makes-all c′ before′ earlier′ m′
+    → Makes-all m (load settings ∷ calls) answers d → Makes-all m′ (load settings ∷ calls) answers′ d′
+    → (answers ≡ answers′) × (d ≡ d′)
+
+-- The state that an accepted load leaves, by the settings alone: "both lists empty, no cycle open, none closed, stored rate 0".
+pub record JustLoaded (sheet : Settings) (c : Clock) : Type 0 where
+  pub settings : c .settings ≡ sheet
+  pub even : standsFor (listed (c .even)) ≡ []
+  pub odd : standsFor (listed (c .odd)) ≡ []
+  pub opened : c .opened ≡ NoCycle
+  pub lastClosed : c .«last_closed» ≡ NoCycle
+  pub rate : c .rate .0 ≡ pos 0
+
+abbrev pub LoadFresh : Type 0
+LoadFresh = (settings : Settings) (r : Loaded) → LoadSays settings r → loading.told (r .answer) .number ≡ 0 → JustLoaded settings (r .clock)

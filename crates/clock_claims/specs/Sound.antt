@@ -5,7 +5,7 @@ use Prim.Native.Nat.{ℕ, _≤_}
 use mathlib.Core.Path.{_≡_}
 use mathlib.Core.Bool.{true, false}
 use mathlib.Core.List.{List, [], _∷_, List·Memᴰ}
-use mathlib.Core.Logic.{_⊎_, _↔_}
+use mathlib.Core.Logic.{_↔_}
 use lib.IntN.{ℤ, pos, negℤ}
 use lib.ListN.{length}
 use lib.Signed.{leZ}
@@ -13,7 +13,7 @@ use Rattle.frame.specs.declared.header.Cycle.{Cycle}
 use Rattle.settings.specs.declared.Settings.{Settings}
 use Rattle.settings.specs.Sheet.{syncIdLimit, rateLimit}
 use Rattle.slot.specs.declared.status.Status.{Status}
-use Rattle.slot_claims.specs.Sheet.{AllInRange, TypedSettings}
+use Rattle.slot_claims.specs.Sheet.{AllInRange}
 use Rattle.correction.specs.declared.microtick.Microtick.{Microtick}
 use Rattle.correction.specs.Microtick.{lowestDeviation, highestDeviation}
 use Rattle.sync_list.specs.declared.row.Measured.the-variants.{Nothing}

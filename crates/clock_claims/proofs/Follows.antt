@@ -1,0 +1,498 @@
+-- A clock state follows what has happened, and so it does after each call.
+use Prim.Native.Nat.{ℕ, suc, _-_, _≤_}
+use native.Mathlib.Nat.{le-trans}
+use mathlib.Core.Path.{_≡_, refl, sym, ap, ap₂, subst, _∙_}
+use mathlib.Core.Bool.{Bool, true, false, false≢true, not, _&&_, _||_, cond}
+use mathlib.Core.List.{List, [], _∷_, List·Permᴰ·nil, List·Permᴰ·cons, List·Permᴰ·trans}
+use borrow.Author.Tests.{eqb-true, not-true, not-false}
+use lib.Dec.{eqb, leb, lit<}
+use lib.IntN.{ℤ}
+use lib.ListN.{length, length-set, set}
+use Rattle.numbers.proofs.Truth.{both-true}
+use Rattle.numbers.proofs.Walk.{cases}
+use Rattle.refusal.specs.Refusal.{_when_, first}
+use Rattle.refusal.proofs.FirstLaws.{first-skip, first-here, first-zero}
+use Rattle.midpoint.specs.Order.{Permuted}
+use Rattle.midpoint.proofs.OrderLaws.{permuted-length}
+use Rattle.checksum.specs.declared.Channel.{Channel}
+use Rattle.frame.specs.declared.header.Cycle.{Cycle}
+use Rattle.frame.specs.declared.header.Slot.{Slot}
+use Rattle.frame.specs.Refusals.{cycleTooHigh}
+use Rattle.settings.specs.declared.Settings.{Settings}
+use Rattle.settings.specs.Sheet.{outOfRange, decodingCorrection, syncIdLimit, offsetLimit, rateLimit, driftDamping, externalOffsetUnit, externalRateUnit}
+use Rattle.slot.specs.declared.status.Status.{Status}
+use Rattle.slot.specs.Sound as slot
+use Rattle.correction.specs.declared.microtick.Microtick.{Microtick}
+use Rattle.correction.specs.declared.term.Term.{Term}
+use Rattle.correction.specs.Microtick.{whole, aboveTimeLimit}
+use Rattle.correction.specs.Deviation.{deviation}
+use Rattle.correction.specs.Terms.{offsetTerm, rateTerm}
+use Rattle.correction.specs.External.{notAControl, withExternal}
+use Rattle.sync_list.specs.declared.row.Measurement.{Measurement}
+use Rattle.sync_list.specs.declared.list.SyncList.{SyncList}
+use Rattle.sync_list.specs.Rows.{withMeasured}
+use Rattle.sync_list.specs.Lists.{rowCount, empty, listed, idsOf, isAmong, placeOf, rowIn, recorded}
+use Rattle.sync_list.specs.Sound.{listSound}
+use Rattle.sync_list.specs.Values.{rateValues}
+use Rattle.measurements.specs.Measurements.{standsFor, differentIds}
+use Rattle.measurements.specs.Terms.{offsetValuesOf, rateValuesOf}
+use Rattle.measurements.proofs.AddingLaws.{recorded-permuted}
+use Rattle.measurements.proofs.OrderLaws.{ids-permuted, offset-permuted, rate-permuted}
+use Rattle.measurements.proofs.RowLaws.{rows-offset, rows-rate}
+use Rattle.clock.specs.declared.state.CycleOrNone.{CycleOrNone}
+use Rattle.clock.specs.declared.state.CycleOrNone.the-variants.{NoCycle, Is}
+use Rattle.clock.specs.declared.state.Clock.{Clock}
+use Rattle.clock.specs.State.{isThere, cycleIn, isCycle, isOdd, fresh, openCycle, listOf}
+use Rattle.clock.specs.Sound.{sound}
+use Rattle.clock.specs.Opening.{openingRefusals, keepsEven, evenAfter, openedOn}
+use Rattle.clock.specs.Measuring.{frameOf, delayOn, noSyncFrame, otherCycle, measuredAlready, listFull, deviationBy, measuredOn}
+use Rattle.clock.specs.Measuring as measuring
+use Rattle.clock.specs.Closing.{closingRefusals, offsetFound, rateStored, rateFound, reportOf, closedOn}
+use Rattle.clock.proofs.SoundLaws.{clauses, at-most, rows-good, ids-different, count-within}
+use Rattle.clock_claims.specs.Typed.{TypedList}
+use Rattle.clock_claims.specs.Histories.{InUse, Since, justLoaded, ofCycles, ofCycle, keptOf, current, ofCurrent, afterOpening, isFull, deviationIn, afterMeasuring, offsetIn, rateIn, reportIn, afterClosing, openRefusals, measureRefusals, closeRefusals, isEven, HoldsSince}
+use Rattle.clock_claims.proofs.InUse.{Every, every, cycles-same, kept-every, kept-all, cycles-none, cycles-more, cycles-other, cycles-nil, odd-not-even, before-odd, OfOpen, OfClosed, open-closed, own-open, before-open}
+use Rattle.clock_claims.proofs.Recorded.{has-place, list-of-sound, list-of-typed}
+use Rattle.clock_claims.proofs.SoundCalls.{fresh-sound, opened-on-sound, measured-on-sound, closed-on-sound}
+use Rattle.clock_claims.proofs.TakenLaws.{taken-permuted, full-permuted, list-taken, list-count, list-full}
+
+-- ---- the relation
+
+abbrev isOddNumber : ℕ → Bool
+isOddNumber n = not (isEven n)
+
+-- The cycles of the measurements in use, by the cycle that is open or was closed last.
+abbrev Steady : CycleOrNone → CycleOrNone → List InUse → Type 0
+Steady (Is cycle) last l = Every (OfOpen (cycle .0)) l
+Steady NoCycle (Is cycle) l = Every (OfClosed (cycle .0)) l
+Steady NoCycle NoCycle l = Unit
+
+-- The state holds what has happened, is sound, and has fifteen rows in each list.
+pub record Follows (s : Since) (c : Clock) : Type 0 where
+  pub holds : HoldsSince s c
+  pub good : sound c ≡ true
+  pub even-typed : TypedList (c .even)
+  pub odd-typed : TypedList (c .odd)
+  pub steady : Steady (s .opened) (s .lastClosed) (s .inUse)
+
+-- ---- a load
+
+nothing-in : (p : ℕ → Bool) → Permuted (standsFor (listed empty)) (ofCycles p [])
+unfolding standsFor ofCycles
+nothing-in p = List·Permᴰ·nil
+
+pub follows-load : (settings : Settings) → outOfRange settings ≡ false → Follows (justLoaded settings) (fresh settings)
+follows-load settings e =
+    record {
+      holds =
+          record {
+            settings = refl;
+            opened = refl;
+            lastClosed = refl;
+            rate = refl;
+            even = nothing-in isEven;
+            odd = nothing-in isOddNumber;
+          };
+      good = fresh-sound settings e;
+      even-typed = refl;
+      odd-typed = refl;
+      steady = tt;
+    }
+
+-- ---- opening a cycle
+
+-- what is in use once a cycle is closed, and while one is open
+steady-closed : (o l : CycleOrNone) (ms : List InUse) (n : ℕ) → Steady o l ms → isThere o ≡ false → isCycle n l ≡ true → isEven n ≡ true
+    → Every (λ (m : InUse). eqb (m .cycle) n ≡ isEven (m .cycle)) ms
+steady-closed (Is cycle) l ms n st closed is even = absurd (false≢true (sym closed))
+steady-closed NoCycle NoCycle ms n st closed is even = absurd (false≢true is)
+steady-closed NoCycle (Is cycle) ms n st closed is even =
+    let same : cycle .0 ≡ n = eqb-true (cycle .0) n is in
+    every (λ m h. ap (eqb (m .cycle)) (sym same) ∙ h (ap isEven same ∙ even)) ms st
+
+steady-open : (o l : CycleOrNone) (ms : List InUse) → Steady o l ms → isThere o ≡ true → Every (OfOpen (cycleIn o .0)) ms
+steady-open (Is cycle) l ms st there = st
+steady-open NoCycle l ms st there = absurd (false≢true there)
+
+module _ (s : Since) (c : Clock) (f : Follows s c) (cycle : Cycle) where
+  pub open-number : first (openingRefusals c cycle) ≡ first (openRefusals s cycle)
+  open-number =
+      first-skip 23 _ (ap not (f .good))
+      ∙ ap (λ (o : CycleOrNone). first (11 when cycleTooHigh (cycle .0) ∷ 19 when isThere o ∷ [])) (f .holds .opened)
+
+  -- the even list stays: an odd cycle follows the last closed one
+  module _ (kept : keepsEven c cycle ≡ true) where
+    both-kept : (isOdd cycle ≡ true) × (isCycle (cycle .0 - 1) (c .«last_closed») ≡ true)
+    both-kept = both-true (isOdd cycle) (isCycle (cycle .0 - 1) (c .«last_closed»)) kept
+
+    not-even : isEven (cycle .0) ≡ false
+    not-even = not-true (isEven (cycle .0)) (sym (odd-not-even (cycle .0)) ∙ both-kept .0)
+
+  in-use-after : (b : Bool) → keepsEven c cycle ≡ b → afterOpening s cycle .inUse ≡ cond b (keptOf (cycle .0 - 1) (s .inUse)) []
+  in-use-after b e =
+      ap (λ (t : Bool). cond t (keptOf (cycle .0 - 1) (s .inUse)) [])
+      (ap (λ (l : CycleOrNone). isOdd cycle && isCycle (cycle .0 - 1) l) (sym (f .holds .lastClosed)) ∙ e)
+
+  module _ (closed : isThere (s .opened) ≡ false) where
+    -- what was in use of even cycles is of the cycle before
+    of-before : keepsEven c cycle ≡ true → Every (λ (m : InUse). eqb (m .cycle) (cycle .0 - 1) ≡ isEven (m .cycle)) (s .inUse)
+    of-before kept =
+        steady-closed (s .opened) (s .lastClosed) (s .inUse) (cycle .0 - 1) (f .steady) closed
+        (ap (isCycle (cycle .0 - 1)) (sym (f .holds .lastClosed)) ∙ both-kept kept .1) (before-odd (cycle .0) (not-even kept) .0)
+
+    even-opened : Permuted (standsFor (listed (evenAfter c cycle))) (ofCycles isEven (afterOpening s cycle .inUse))
+    even-opened =
+        cases (keepsEven c cycle)
+        (λ t.
+        subst (λ (l : List InUse). Permuted (standsFor (listed (evenAfter c cycle))) (ofCycles isEven l)) (sym (in-use-after true t))
+        (subst (Permuted (standsFor (listed (evenAfter c cycle)))) (sym (kept-all isEven (cycle .0 - 1) (s .inUse) (of-before t)))
+        (subst (λ (b : Bool). Permuted (standsFor (listed (cond b (c .even) empty))) (ofCycles isEven (s .inUse))) (sym t) (f .holds .even))))
+        (λ t.
+        subst (λ (l : List InUse). Permuted (standsFor (listed (evenAfter c cycle))) (ofCycles isEven l)) (sym (in-use-after false t))
+        (subst (λ (b : Bool). Permuted (standsFor (listed (cond b (c .even) empty))) (ofCycles isEven [])) (sym t) (nothing-in isEven)))
+
+    -- none of an odd cycle is in use
+    odd-opened : Permuted (standsFor (listed empty)) (ofCycles isOddNumber (afterOpening s cycle .inUse))
+    odd-opened =
+        cases (keepsEven c cycle)
+        (λ t.
+        let even = before-odd (cycle .0) (not-even t) .0 in
+        let none : ofCycles isOddNumber (keptOf (cycle .0 - 1) (s .inUse)) ≡ [] =
+        cycles-none isOddNumber (keptOf (cycle .0 - 1) (s .inUse))
+        (every (λ m e. ap isOddNumber e ∙ ap not even) (keptOf (cycle .0 - 1) (s .inUse)) (kept-every (cycle .0 - 1) (s .inUse))) in
+        subst (Permuted (standsFor (listed empty)))
+        (cycles-nil isOddNumber ∙ sym (ap (ofCycles isOddNumber) (in-use-after true t) ∙ none)) (nothing-in isOddNumber))
+        (λ t. subst (λ (l : List InUse). Permuted (standsFor (listed empty)) (ofCycles isOddNumber l)) (sym (in-use-after false t)) (nothing-in isOddNumber))
+
+    steady-opened : Every (OfOpen (cycle .0)) (afterOpening s cycle .inUse)
+    steady-opened =
+        cases (keepsEven c cycle)
+        (λ t.
+        subst (Every (OfOpen (cycle .0))) (sym (in-use-after true t))
+        (every (λ m e. before-open (cycle .0) m (not-even t) e) (keptOf (cycle .0 - 1) (s .inUse)) (kept-every (cycle .0 - 1) (s .inUse))))
+        (λ t. subst (Every (OfOpen (cycle .0))) (sym (in-use-after false t)) tt)
+
+    pub follows-open : cycleTooHigh (cycle .0) ≡ false → Follows (afterOpening s cycle) (openedOn c cycle)
+    follows-open low =
+        record {
+          holds =
+              record {
+                settings = f .holds .settings;
+                opened = refl;
+                lastClosed = f .holds .lastClosed;
+                rate = f .holds .rate;
+                even = even-opened;
+                odd = odd-opened;
+              };
+          good = opened-on-sound c cycle (f .good) low;
+          even-typed =
+              cases (keepsEven c cycle)
+              (λ t. ap (λ (b : Bool). length (cond b (c .even) empty .rows)) t ∙ f .even-typed)
+              (λ t. ap (λ (b : Bool). length (cond b (c .even) empty .rows)) t);
+          odd-typed = refl;
+          steady = steady-opened;
+        }
+
+-- ---- while a cycle is open
+
+module _ (s : Since) (c : Clock) (f : Follows s c) where
+  now-is : openCycle c ≡ current s
+  now-is = ap cycleIn (f .holds .opened)
+
+  settings-is : c .settings ≡ s .settings
+  settings-is = f .holds .settings
+
+  limit-small : syncIdLimit (c .settings) ≤ rowCount
+  limit-small = at-most (c .settings) (clauses c (f .good) .settings) 4 (lit< tt)
+
+  module _ (there : isThere (s .opened) ≡ true) where
+    of-open : Every (OfOpen (current s .0)) (s .inUse)
+    of-open = steady-open (s .opened) (s .lastClosed) (s .inUse) (f .steady) there
+
+    odd-is : isOdd (openCycle c) ≡ isOddNumber (current s .0)
+    odd-is = ap isOdd now-is ∙ odd-not-even (current s .0)
+
+    -- the open cycle's list holds the measurements of the open cycle
+    pub list-holds : Permuted (standsFor (listed (listOf (openCycle c) c))) (ofCurrent s)
+    list-holds =
+        cases (isEven (current s .0))
+        (λ t.
+        subst (Permuted (standsFor (listed (listOf (openCycle c) c))))
+        (sym
+        (cycles-same (λ (n : ℕ). eqb n (current s .0)) isEven (s .inUse)
+        (every (λ m h. h .0 ∙ ap (λ (b : Bool). cond b (isEven (m .cycle)) (not (isEven (m .cycle)))) t) (s .inUse) of-open)))
+        (subst (λ (b : Bool). Permuted (standsFor (listed (cond b (c .odd) (c .even)))) (ofCycles isEven (s .inUse))) (sym (odd-is ∙ ap not t)) (f .holds .even)))
+        (λ t.
+        subst (Permuted (standsFor (listed (listOf (openCycle c) c))))
+        (sym
+        (cycles-same (λ (n : ℕ). eqb n (current s .0)) isOddNumber (s .inUse)
+        (every (λ m h. h .0 ∙ ap (λ (b : Bool). cond b (isEven (m .cycle)) (not (isEven (m .cycle)))) t) (s .inUse) of-open)))
+        (subst (λ (b : Bool). Permuted (standsFor (listed (cond b (c .odd) (c .even)))) (ofCycles isOddNumber (s .inUse))) (sym (odd-is ∙ ap not t)) (f .holds .odd)))
+
+    -- in an odd cycle the even list holds those of the cycle before
+    before-holds : isEven (current s .0) ≡ false → Permuted (standsFor (listed (c .even))) (ofCycle (current s .0 - 1) (s .inUse))
+    before-holds odd =
+        subst (Permuted (standsFor (listed (c .even))))
+        (sym (cycles-same (λ (n : ℕ). eqb n (current s .0 - 1)) isEven (s .inUse) (every (λ m h. h .1 odd) (s .inUse) of-open))) (f .holds .even)
+
+    list-good : listSound (syncIdLimit (c .settings)) (listOf (openCycle c) c) ≡ true
+    list-good = list-of-sound c (openCycle c) (f .good)
+
+    list-typed : TypedList (listOf (openCycle c) c)
+    list-typed = list-of-typed c (openCycle c) (f .even-typed) (f .odd-typed)
+
+    pub count-is : listOf (openCycle c) c .count ≡ length (differentIds (ofCurrent s))
+    count-is =
+        list-count (syncIdLimit (c .settings)) (listOf (openCycle c) c) list-typed limit-small list-good
+        ∙ permuted-length (ids-permuted list-holds)
+
+-- ---- measuring
+
+open-steady : (o l : CycleOrNone) (ms : List InUse) → isThere o ≡ true → Every (OfOpen (cycleIn o .0)) ms → Steady o l ms
+open-steady (Is cycle) l ms there e = e
+open-steady NoCycle l ms there e = absurd (false≢true there)
+
+recorded-typed : (id : Slot) (channel : Channel) (m : Measurement) (l : SyncList) → TypedList l → TypedList (recorded id channel m l)
+recorded-typed id channel m l typed =
+    cases (leb rowCount (placeOf id l))
+    (λ t. ap (λ (b : Bool). length (cond b l (placed) .rows)) t ∙ typed)
+    (λ t. ap (λ (b : Bool). length (cond b l (placed) .rows)) t ∙ length-set (l .rows) (placeOf id l) (withMeasured channel m (rowIn id (listed l))) ∙ typed)
+  where
+    placed : SyncList
+    placed =
+        record {
+          rows = set (l .rows) (placeOf id l) (withMeasured channel m (rowIn id (listed l)));
+          count = cond (isAmong (id .0) (idsOf (listed l))) (l .count) (suc (placeOf id l));
+        }
+
+module _ (s : Since) (c : Clock) (f : Follows s c) (status : Status) (observed actionPoint : Microtick) where
+  pub deviation-is : deviationBy c status observed actionPoint ≡ deviationIn s status observed actionPoint
+  deviation-is =
+      ap (λ (k : Settings). deviation (observed .0) (decodingCorrection k) (delayOn (status .channel) k) (actionPoint .0)) (settings-is s c f)
+
+  number-open : isThere (s .opened) ≡ true → first (measuring.measureRefusals c status observed actionPoint) ≡ first (measureRefusals s status observed actionPoint)
+  number-open there =
+      let id = frameOf status .id in
+      let limit = syncIdLimit (c .settings) in
+      let l = listOf (openCycle c) c in
+      let typed = list-typed s c f there in
+      let good = list-good s c f there in
+      let small = limit-small s c f in
+      let p = list-holds s c f there in
+      let p23 = ap (λ (b : Bool). not (b && slot.sound status)) (f .good) in
+      let p18 = ap (λ (o : CycleOrNone). not (isThere o)) (f .holds .opened) in
+      let p22 = ap (λ (n : Cycle). not (eqb (frameOf status .cycle .0) (n .0))) (now-is s c f) in
+      let p16 = list-taken limit l typed small good id (status .channel) ∙ taken-permuted (id .0) (status .channel) p in
+      let p15 =
+      list-full limit l typed small good (c .settings) refl id
+      ∙ full-permuted (c .settings) (id .0) p
+      ∙ ap (λ (k : Settings). isFull k (id .0) (ofCurrent s)) (settings-is s c f) in
+      λ i.
+      first
+      (23 when p23 i
+      ∷ 18 when p18 i
+      ∷ 14 when (aboveTimeLimit (observed .0) || aboveTimeLimit (actionPoint .0))
+      ∷ 20 when noSyncFrame status
+      ∷ 22 when p22 i
+      ∷ 16 when p16 i
+      ∷ 15 when p15 i
+      ∷ [])
+
+  -- where no cycle is open, 23 or 18 comes before what is measured is looked at
+  number-closed : isThere (s .opened) ≡ false → first (measuring.measureRefusals c status observed actionPoint) ≡ first (measureRefusals s status observed actionPoint)
+  number-closed closed =
+      let ours = ap (λ (b : Bool). not (b && slot.sound status)) (f .good) in
+      let none = ap (λ (o : CycleOrNone). not (isThere o)) (f .holds .opened) ∙ ap not closed in
+      cases (slot.sound status)
+      (λ t.
+      first-skip 23 _ (ours ∙ ap not t)
+      ∙ first-here 18 _ none
+      ∙ sym (first-skip 23 _ (ap not t) ∙ first-here 18 _ (ap not closed)))
+      (λ t. first-here 23 _ (ours ∙ ap not t) ∙ sym (first-here 23 _ (ap not t)))
+
+  pub measure-number : first (measuring.measureRefusals c status observed actionPoint) ≡ first (measureRefusals s status observed actionPoint)
+  measure-number = cases (isThere (s .opened)) number-open number-closed
+
+  module _ (zero : first (measuring.measureRefusals c status observed actionPoint) ≡ 0) where
+    abbrev new : InUse
+    new =
+        record {
+          cycle = current s .0;
+          taken = record { id = frameOf status .id .0; channel = status .channel; deviation = deviationBy c status observed actionPoint };
+        }
+
+    abbrev m : Measurement
+    m = record { deviation = record { 0 = deviationBy c status observed actionPoint } }
+
+    z18 : (isThere (c .opened) ≡ true) × (first (14 when (aboveTimeLimit (observed .0) || aboveTimeLimit (actionPoint .0)) ∷ 20 when noSyncFrame status ∷ 22 when otherCycle c status ∷ 16 when measuredAlready c status ∷ 15 when listFull c status ∷ []) ≡ 0)
+    z18 =
+        let z23 = first-zero 22 (not (sound c && slot.sound status)) _ zero in
+        let z = first-zero 17 (not (isThere (c .opened))) _ (z23 .1) in
+        (not-false (isThere (c .opened)) (z .0), z .1)
+
+    there : isThere (s .opened) ≡ true
+    there = ap isThere (sym (f .holds .opened)) ∙ z18 .0
+
+    z16 : (measuredAlready c status ≡ false) × (listFull c status ≡ false)
+    z16 =
+        let z14 = first-zero 13 (aboveTimeLimit (observed .0) || aboveTimeLimit (actionPoint .0)) _ (z18 .1) in
+        let z20 = first-zero 19 (noSyncFrame status) _ (z14 .1) in
+        let z22 = first-zero 21 (otherCycle c status) _ (z20 .1) in
+        let z = first-zero 15 (measuredAlready c status) _ (z22 .1) in
+        (z .0, first-zero 14 (listFull c status) _ (z .1) .0)
+
+    -- the list has the measurement, and what it had
+    one-more : Permuted (standsFor (listed (recorded (frameOf status .id) (status .channel) m (listOf (openCycle c) c)))) (new .taken ∷ standsFor (listed (listOf (openCycle c) c)))
+    one-more =
+        let l = listOf (openCycle c) c in
+        let typed = list-typed s c f there in
+        let good = list-good s c f there in
+        let small = limit-small s c f in
+        recorded-permuted l (frameOf status .id) (status .channel) m typed (le-trans (count-within (syncIdLimit (c .settings)) l good) small) (z16 .0)
+        (has-place (syncIdLimit (c .settings)) l (frameOf status .id) typed small good (z16 .1))
+
+    -- a list of one parity, with the measurement or without it, by whether the open cycle has that parity
+    even-measured : Permuted (standsFor (listed (measuredOn c status (deviationBy c status observed actionPoint) .even))) (ofCycles isEven (new ∷ s .inUse))
+    even-measured =
+        cases (isEven (current s .0))
+        (λ t.
+        let b : isOdd (openCycle c) ≡ false = odd-is s c f there ∙ ap not t in
+        let rec = recorded (frameOf status .id) (status .channel) m in
+        subst (Permuted (standsFor (listed (measuredOn c status (deviationBy c status observed actionPoint) .even)))) (sym (cycles-more isEven new (s .inUse) t))
+        (subst (λ (k : Bool). Permuted (standsFor (listed (cond k (c .even) (rec (cond k (c .odd) (c .even)))))) (new .taken ∷ ofCycles isEven (s .inUse))) (sym b)
+        (List·Permᴰ·trans
+        (subst (λ (k : Bool). Permuted (standsFor (listed (rec (cond k (c .odd) (c .even))))) (new .taken ∷ standsFor (listed (cond k (c .odd) (c .even))))) b one-more)
+        (List·Permᴰ·cons refl (f .holds .even)))))
+        (λ t.
+        let b : isOdd (openCycle c) ≡ true = odd-is s c f there ∙ ap not t in
+        let rec = recorded (frameOf status .id) (status .channel) m in
+        subst (Permuted (standsFor (listed (measuredOn c status (deviationBy c status observed actionPoint) .even)))) (sym (cycles-other isEven new (s .inUse) t))
+        (subst (λ (k : Bool). Permuted (standsFor (listed (cond k (c .even) (rec (cond k (c .odd) (c .even)))))) (ofCycles isEven (s .inUse))) (sym b) (f .holds .even)))
+
+    odd-measured : Permuted (standsFor (listed (measuredOn c status (deviationBy c status observed actionPoint) .odd))) (ofCycles isOddNumber (new ∷ s .inUse))
+    odd-measured =
+        cases (isEven (current s .0))
+        (λ t.
+        let b : isOdd (openCycle c) ≡ false = odd-is s c f there ∙ ap not t in
+        let rec = recorded (frameOf status .id) (status .channel) m in
+        subst (Permuted (standsFor (listed (measuredOn c status (deviationBy c status observed actionPoint) .odd)))) (sym (cycles-other isOddNumber new (s .inUse) (ap not t)))
+        (subst (λ (k : Bool). Permuted (standsFor (listed (cond k (rec (cond k (c .odd) (c .even))) (c .odd)))) (ofCycles isOddNumber (s .inUse))) (sym b) (f .holds .odd)))
+        (λ t.
+        let b : isOdd (openCycle c) ≡ true = odd-is s c f there ∙ ap not t in
+        let rec = recorded (frameOf status .id) (status .channel) m in
+        subst (Permuted (standsFor (listed (measuredOn c status (deviationBy c status observed actionPoint) .odd)))) (sym (cycles-more isOddNumber new (s .inUse) (ap not t)))
+        (subst (λ (k : Bool). Permuted (standsFor (listed (cond k (rec (cond k (c .odd) (c .even))) (c .odd)))) (new .taken ∷ ofCycles isOddNumber (s .inUse))) (sym b)
+        (List·Permᴰ·trans
+        (subst (λ (k : Bool). Permuted (standsFor (listed (rec (cond k (c .odd) (c .even))))) (new .taken ∷ standsFor (listed (cond k (c .odd) (c .even))))) b one-more)
+        (List·Permᴰ·cons refl (f .holds .odd)))))
+
+    pub follows-measure : Follows (afterMeasuring s status (deviationBy c status observed actionPoint)) (measuredOn c status (deviationBy c status observed actionPoint))
+    follows-measure =
+        let rec = recorded (frameOf status .id) (status .channel) m (listOf (openCycle c) c) in
+        let typed : TypedList rec = recorded-typed (frameOf status .id) (status .channel) m (listOf (openCycle c) c) (list-typed s c f there) in
+        record {
+          holds =
+              record {
+                settings = f .holds .settings;
+                opened = f .holds .opened;
+                lastClosed = f .holds .lastClosed;
+                rate = f .holds .rate;
+                even = even-measured;
+                odd = odd-measured;
+              };
+          good = measured-on-sound c status observed actionPoint (f .even-typed) (f .odd-typed) zero;
+          even-typed =
+              cases (isOdd (openCycle c))
+              (λ t. ap (λ (b : Bool). length (cond b (c .even) rec .rows)) t ∙ f .even-typed)
+              (λ t. ap (λ (b : Bool). length (cond b (c .even) rec .rows)) t ∙ typed);
+          odd-typed =
+              cases (isOdd (openCycle c))
+              (λ t. ap (λ (b : Bool). length (cond b rec (c .odd) .rows)) t ∙ typed)
+              (λ t. ap (λ (b : Bool). length (cond b rec (c .odd) .rows)) t ∙ f .odd-typed);
+          steady = open-steady (s .opened) (s .lastClosed) (new ∷ s .inUse) there (own-open (current s .0) new refl, of-open s c f there);
+        }
+
+-- ---- closing
+
+module _ (s : Since) (c : Clock) (f : Follows s c) where
+  pub close-number : (offsetControl rateControl : ℤ) → first (closingRefusals c offsetControl rateControl) ≡ first (closeRefusals s offsetControl rateControl)
+  close-number offsetControl rateControl =
+      first-skip 23 _ (ap not (f .good))
+      ∙ ap (λ (o : CycleOrNone). first (18 when not (isThere o) ∷ 21 when (notAControl offsetControl || notAControl rateControl) ∷ [])) (f .holds .opened)
+
+  module _ (there : isThere (s .opened) ≡ true) where
+    offset-is : offsetFound c ≡ offsetIn s
+    offset-is =
+        let l = listOf (openCycle c) c in
+        let good = list-good s c f there in
+        let limit = syncIdLimit (c .settings) in
+        ap (λ (v : List ℤ). offsetTerm v (c .settings .«sends_sync») (offsetLimit (c .settings)))
+        (sym (rows-offset (listed l) (rows-good limit l good) (ids-different limit l good)))
+        ∙ offset-permuted (list-holds s c f there) (c .settings .«sends_sync») (offsetLimit (c .settings))
+        ∙ ap (λ (k : Settings). offsetTerm (offsetValuesOf (ofCurrent s)) (k .«sends_sync») (offsetLimit k)) (settings-is s c f)
+
+    rate-odd : isOdd (openCycle c) ≡ true → rateFound c ≡ rateIn s
+    rate-odd t =
+        let even-good = clauses c (f .good) .even in
+        let odd-good = clauses c (f .good) .odd in
+        let limit = syncIdLimit (c .settings) in
+        let odd-number : isEven (current s .0) ≡ false = not-true (isEven (current s .0)) (sym (odd-is s c f there) ∙ t) in
+        let odd-holds : Permuted (standsFor (listed (c .odd))) (ofCurrent s) =
+        subst (λ (k : Bool). Permuted (standsFor (listed (cond k (c .odd) (c .even)))) (ofCurrent s)) t (list-holds s c f there) in
+        ap (λ (b : Bool). cond b (rateTerm whole (rateValues whole (listed (c .odd)) (listed (c .even))) (c .settings .«sends_sync») (c .rate .0) (driftDamping (c .settings)) (rateLimit (c .settings))) (rateStored c)) t
+        ∙ ap (λ (v : List ℤ). rateTerm whole v (c .settings .«sends_sync») (c .rate .0) (driftDamping (c .settings)) (rateLimit (c .settings)))
+        (sym (rows-rate (listed (c .odd)) (listed (c .even)) (rows-good limit (c .odd) odd-good) (ids-different limit (c .odd) odd-good) (ids-different limit (c .even) even-good)))
+        ∙ rate-permuted odd-holds (before-holds s c f there odd-number) (c .settings .«sends_sync») (c .rate .0) (driftDamping (c .settings)) (rateLimit (c .settings))
+        ∙ ap₂ (λ (k : Settings) (r : ℤ). rateTerm whole (rateValuesOf (ofCurrent s) (ofCycle (current s .0 - 1) (s .inUse))) (k .«sends_sync») r (driftDamping k) (rateLimit k))
+        (settings-is s c f) (f .holds .rate)
+        ∙ sym
+        (ap (λ (b : Bool). cond b
+        (rateTerm whole (rateValuesOf (ofCurrent s) (ofCycle (current s .0 - 1) (s .inUse))) (s .settings .«sends_sync») (s .rate) (driftDamping (s .settings)) (rateLimit (s .settings)))
+        (record { value = record { 0 = s .rate }; «is_missing» = false; «is_limited» = false }))
+        (ap isOdd (sym (now-is s c f)) ∙ t))
+
+    rate-even : isOdd (openCycle c) ≡ false → rateFound c ≡ rateIn s
+    rate-even t =
+        ap (λ (b : Bool). cond b (rateTerm whole (rateValues whole (listed (c .odd)) (listed (c .even))) (c .settings .«sends_sync») (c .rate .0) (driftDamping (c .settings)) (rateLimit (c .settings))) (rateStored c)) t
+        ∙ ap (λ (r : ℤ). record { value = record { 0 = r }; «is_missing» = false; «is_limited» = false }) (f .holds .rate)
+        ∙ sym
+        (ap (λ (b : Bool). cond b
+        (rateTerm whole (rateValuesOf (ofCurrent s) (ofCycle (current s .0 - 1) (s .inUse))) (s .settings .«sends_sync») (s .rate) (driftDamping (s .settings)) (rateLimit (s .settings)))
+        (record { value = record { 0 = s .rate }; «is_missing» = false; «is_limited» = false }))
+        (ap isOdd (sym (now-is s c f)) ∙ t))
+
+    rate-is : rateFound c ≡ rateIn s
+    rate-is = cases (isOdd (openCycle c)) rate-odd rate-even
+
+    pub report-is : (offsetControl rateControl : ℤ) → reportOf c offsetControl rateControl ≡ reportIn s offsetControl rateControl
+    report-is offsetControl rateControl =
+        let settings = settings-is s c f in
+        let count = count-is s c f there in
+        λ i.
+        record {
+          offset = record { 0 = withExternal (offset-is i .value .0) offsetControl (externalOffsetUnit (settings i)) };
+          rate = record { 0 = withExternal (rate-is i .value .0) rateControl (externalRateUnit (settings i)) };
+          «offset_missing» = offset-is i .«is_missing»;
+          «rate_missing» = rate-is i .«is_missing»;
+          «offset_limited» = offset-is i .«is_limited»;
+          «rate_limited» = rate-is i .«is_limited»;
+          ids = count i;
+        }
+
+    pub follows-close : Follows (afterClosing s) (closedOn c)
+    follows-close =
+        record {
+          holds =
+              record {
+                settings = f .holds .settings;
+                opened = refl;
+                lastClosed = ap Is (now-is s c f);
+                rate = ap (λ (t : Term). t .value .0) rate-is;
+                even = f .holds .even;
+                odd = f .holds .odd;
+              };
+          good = closed-on-sound c (f .good) (ap isThere (f .holds .opened) ∙ there);
+          even-typed = f .even-typed;
+          odd-typed = f .odd-typed;
+          steady = every (open-closed (current s .0)) (s .inUse) (of-open s c f there);
+        }
