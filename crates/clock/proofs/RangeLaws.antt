@@ -20,13 +20,13 @@ use Rattle.settings.specs.Sheet.{outOfRange, decodingCorrection, syncIdLimit, o
 use Rattle.slot.specs.declared.status.Status.{Status}
 use Rattle.correction.specs.declared.external.Control.{Control}
 use Rattle.correction.specs.declared.microtick.Microtick.{Microtick}
-use Rattle.correction.specs.Microtick.{timeLimit, aboveTimeLimit, lowestDeviation, highestDeviation, isDeviation, held, whole}
-use Rattle.correction.specs.Terms.{withOwn, isOutside, within, limited, damped, offsetTerm, rateTerm}
+use Rattle.correction.specs.Microtick.{timeLimit, aboveTimeLimit, lowestDeviation, highestDeviation, isDeviation, held}
+use Rattle.correction.specs.Terms.{withOwn, isOutside, within, limited, damped, offsetTerm, rateTerm, rateTermBy}
 use Rattle.correction.specs.External.{signOf, externalTerm, withExternal}
 use Rattle.correction.proofs.ControlLaws.{external-small}
 use Rattle.correction.proofs.HeldLaws.{held-fits}
 use Rattle.sync_list.specs.Lists.{listed}
-use Rattle.sync_list.specs.Values.{offsetValues, rateValues}
+use Rattle.sync_list.specs.Values.{offsetValues, rateValues, rateValuesBy}
 use Rattle.sync_list.proofs.RangeLaws.{spread, rates-held, rates-near}
 use Rattle.clock.specs.declared.state.Clock.{Clock}
 use Rattle.clock.specs.State.{isOdd, openCycle, listOf}
@@ -85,7 +85,7 @@ offset-near [] sendsSync limit = zero-near limit
 offset-near (v ∷ vs) sendsSync limit = near-within limit (midpoint (withOwn sendsSync (v ∷ vs)))
 
 rate-near : (values : List ℤ) (sendsSync : Bool) (stored : ℤ) (d limit : ℕ) → Near limit stored
-    → Near limit (rateTerm whole values sendsSync stored d limit .value .0)
+    → Near limit (rateTerm values sendsSync stored d limit .value .0)
 rate-near [] sendsSync stored d limit n = n
 rate-near (v ∷ vs) sendsSync stored d limit n = near-within limit (damped d (midpoint (withOwn sendsSync (v ∷ vs)) +ℤ stored))
 
@@ -102,7 +102,7 @@ sum-held m limit x stored nx ns small =
     held-fits (x +ℤ stored) (sfits-by (omega arith) (omega arith))
 
 rate-whole : (values : List ℤ) (sendsSync : Bool) (stored : ℤ) (d limit : ℕ) → Within spread values → Near limit stored → spread + limit < 2 ^ 31
-    → rateTerm held values sendsSync stored d limit ≡ rateTerm whole values sendsSync stored d limit
+    → rateTermBy held values sendsSync stored d limit ≡ rateTerm values sendsSync stored d limit
 rate-whole [] sendsSync stored d limit w n small = refl
 rate-whole (v ∷ vs) sendsSync stored d limit w n small =
     let m = midpoint (withOwn sendsSync (v ∷ vs)) in
@@ -116,9 +116,9 @@ module _ (clock : Clock) (good : sound clock ≡ true) where
       not-outside (rateLimit (clock .settings)) (clock .rate .0) (not-true (isOutside (rateLimit (clock .settings)) (clock .rate .0)) (k .rate))
 
   -- the rate that the code works out is 01's
-  pub rate-is-whole : rateTerm held (rateValues held (listed (clock .odd)) (listed (clock .even))) (clock .settings .«sends_sync») (clock .rate .0)
+  pub rate-is-whole : rateTermBy held (rateValuesBy held (listed (clock .odd)) (listed (clock .even))) (clock .settings .«sends_sync») (clock .rate .0)
       (driftDamping (clock .settings)) (rateLimit (clock .settings))
-      ≡ rateTerm whole (rateValues whole (listed (clock .odd)) (listed (clock .even))) (clock .settings .«sends_sync») (clock .rate .0)
+      ≡ rateTerm (rateValues (listed (clock .odd)) (listed (clock .even))) (clock .settings .«sends_sync») (clock .rate .0)
       (driftDamping (clock .settings)) (rateLimit (clock .settings))
   rate-is-whole =
       let s = clock .settings in
@@ -126,9 +126,9 @@ module _ (clock : Clock) (good : sound clock ≡ true) where
       let even = rows-good (syncIdLimit s) (clock .even) (k .even) in
       let odd = rows-good (syncIdLimit s) (clock .odd) (k .odd) in
       let few = at-most s (k .settings) 6 (lit< tt) in
-      ap (λ (values : List ℤ). rateTerm held values (s .«sends_sync») (clock .rate .0) (driftDamping s) (rateLimit s))
+      ap (λ (values : List ℤ). rateTermBy held values (s .«sends_sync») (clock .rate .0) (driftDamping s) (rateLimit s))
       (rates-held (listed (clock .even)) even (listed (clock .odd)) odd)
-      ∙ rate-whole (rateValues whole (listed (clock .odd)) (listed (clock .even))) (s .«sends_sync») (clock .rate .0) (driftDamping s) (rateLimit s)
+      ∙ rate-whole (rateValues (listed (clock .odd)) (listed (clock .even))) (s .«sends_sync») (clock .rate .0) (driftDamping s) (rateLimit s)
       (rates-near (listed (clock .even)) even (listed (clock .odd)) odd) stored-near (omega arith)
 
   pub found-near : Near (rateLimit (clock .settings)) (rateFound clock .value .0)
@@ -136,7 +136,7 @@ module _ (clock : Clock) (good : sound clock ≡ true) where
       let s = clock .settings in
       cases (isOdd (openCycle clock))
       (λ t. rw t
-      (rate-near (rateValues whole (listed (clock .odd)) (listed (clock .even))) (s .«sends_sync») (clock .rate .0) (driftDamping s) (rateLimit s) stored-near))
+      (rate-near (rateValues (listed (clock .odd)) (listed (clock .even))) (s .«sends_sync») (clock .rate .0) (driftDamping s) (rateLimit s) stored-near))
       (λ t. rw t stored-near)
 
   -- the external term never leads out of the type

@@ -5,10 +5,10 @@ use mathlib.Core.Bool.{false, not, _||_, cond}
 use mathlib.Core.List.{List, [], _∷_}
 use lib.IntN.{ℤ, pos}
 use Rattle.refusal.specs.Refusal.{Line, _when_, first, ifAccepted}
+use Rattle.settings.specs.declared.Settings.{Settings}
 use Rattle.settings.specs.Sheet.{offsetLimit, rateLimit, driftDamping, externalOffsetUnit, externalRateUnit}
 use Rattle.correction.specs.declared.microtick.SignedMicrotick.{SignedMicrotick}
 use Rattle.correction.specs.declared.term.Term.{Term}
-use Rattle.correction.specs.Microtick.{whole}
 use Rattle.correction.specs.Terms.{offsetTerm, rateTerm}
 use Rattle.correction.specs.External.{notAControl, withExternal}
 use Rattle.sync_list.specs.Lists.{listed}
@@ -38,33 +38,37 @@ offsetFound clock =
     offsetTerm (offsetValues (listed (listOf (openCycle clock) clock))) (clock .settings .«sends_sync») (offsetLimit (clock .settings))
 
 -- "Even cycles report the stored rate", with both flags clear.
-abbrev pub rateStored : Clock → Term
-rateStored clock = record { value = clock .rate; «is_missing» = false; «is_limited» = false }
+abbrev pub storedTerm : ℤ → Term
+storedTerm rate = record { value = record { 0 = rate }; «is_missing» = false; «is_limited» = false }
 
 -- "Rate, odd cycles", over both lists.
 abbrev pub rateFound : Clock → Term
 rateFound clock =
     cond (isOdd (openCycle clock))
-    (rateTerm whole (rateValues whole (listed (clock .odd)) (listed (clock .even))) (clock .settings .«sends_sync») (clock .rate .0)
+    (rateTerm (rateValues (listed (clock .odd)) (listed (clock .even))) (clock .settings .«sends_sync») (clock .rate .0)
     (driftDamping (clock .settings))
     (rateLimit (clock .settings)))
-    (rateStored clock)
+    (storedTerm (clock .rate .0))
 
 -- ---- what is reported, and what stays
 
--- "Closing returns both terms, four flags .. and how many different IDs were measured in the closed cycle". The rows are the
--- different IDs. "Last, its control times its external unit is added to each reported term".
-abbrev pub reportOf : Clock → ℤ → ℤ → Report
-reportOf clock offsetControl rateControl =
+-- "Closing returns both terms, four flags .. and how many different IDs were measured in the closed cycle". "Last, its control times its
+-- external unit is added to each reported term".
+abbrev pub reportWith : Settings → Term → Term → ℕ → ℤ → ℤ → Report
+reportWith settings offset rate ids offsetControl rateControl =
     record {
-      offset = record { 0 = withExternal (offsetFound clock .value .0) offsetControl (externalOffsetUnit (clock .settings)) };
-      rate = record { 0 = withExternal (rateFound clock .value .0) rateControl (externalRateUnit (clock .settings)) };
-      «offset_missing» = offsetFound clock .«is_missing»;
-      «rate_missing» = rateFound clock .«is_missing»;
-      «offset_limited» = offsetFound clock .«is_limited»;
-      «rate_limited» = rateFound clock .«is_limited»;
-      ids = listOf (openCycle clock) clock .count;
+      offset = record { 0 = withExternal (offset .value .0) offsetControl (externalOffsetUnit settings) };
+      rate = record { 0 = withExternal (rate .value .0) rateControl (externalRateUnit settings) };
+      «offset_missing» = offset .«is_missing»;
+      «rate_missing» = rate .«is_missing»;
+      «offset_limited» = offset .«is_limited»;
+      «rate_limited» = rate .«is_limited»;
+      ids = ids;
     }
+
+-- A sound list counts a row for each different ID.
+abbrev pub reportOf : Clock → ℤ → ℤ → Report
+reportOf clock = reportWith (clock .settings) (offsetFound clock) (rateFound clock) (listOf (openCycle clock) clock .count)
 
 -- "no cycle is open after it", with the rate that is stored.
 abbrev pub closedWith : Clock → SignedMicrotick → Clock

@@ -6,6 +6,8 @@ use lib.Dec.{eqb}
 use lib.IntN.{pos}
 use Rattle.refusal.specs.Refusal.{first, numbered, InOrder}
 use Rattle.refusal.proofs.FirstLaws.{first-in-order, if-refused}
+use Rattle.slot_claims.specs.Sheet.{FieldTold}
+use Rattle.slot_claims.proofs.Sheet.{sheets}
 use Rattle.clock.specs.declared.state.Clock.{Clock}
 use Rattle.clock.specs.declared.loading.Loading.{Loading}
 use Rattle.clock.specs.declared.loading.Loading.the-variants as loading
@@ -20,7 +22,7 @@ use Rattle.clock.specs.Loading as load
 use Rattle.clock.specs.Opening as openRule
 use Rattle.clock.specs.Measuring as measure
 use Rattle.clock.specs.Closing as close
-use Rattle.clock_claims.specs.Answers.{LoadOne, OpenOne, MeasureOne, CloseOne, LoadInOrder, OpenInOrder, MeasureInOrder, CloseInOrder, LoadRefused, OpenRefused, MeasureRefused, CloseRefused}
+use Rattle.clock_claims.specs.Answers.{LoadOne, OpenOne, MeasureOne, CloseOne, LoadInOrder, OpenInOrder, MeasureInOrder, CloseInOrder, LoadField, LoadRefused, OpenRefused, MeasureRefused, CloseRefused}
 
 -- ---- one result: a number names one case, so answers that say the same in 01's numbers are one answer
 
@@ -117,6 +119,11 @@ unfolding numbered
 close-in-order clock offsetControl rateControl r h =
     let l = close.closingRefusals clock offsetControl rateControl in
     subst (InOrder l) (sym (ap (λ (t : close.Told). t .number) (h .answers))) (first-in-order l refl)
+
+-- ---- the field
+
+pub load-field : LoadField
+load-field settings r typed h = subst (FieldTold settings) (sym (ap (λ (t : load.Told). t .field) (h .answers))) (sheets settings typed)
 
 -- ---- a refusal
 

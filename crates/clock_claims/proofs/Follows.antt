@@ -1,44 +1,36 @@
 -- A clock state follows what has happened, and so it does after each call.
-use Prim.Native.Nat.{ℕ, suc, _-_, _≤_}
+use Prim.Native.Nat.{ℕ, _-_, _≤_}
 use native.Mathlib.Nat.{le-trans}
-use mathlib.Core.Path.{_≡_, refl, sym, ap, ap₂, subst, _∙_}
+use mathlib.Core.Path.{_≡_, refl, sym, ap, subst, _∙_}
 use mathlib.Core.Bool.{Bool, true, false, false≢true, not, _&&_, _||_, cond}
 use mathlib.Core.List.{List, [], _∷_, List·Permᴰ·nil, List·Permᴰ·cons, List·Permᴰ·trans}
 use borrow.Author.Tests.{eqb-true, not-true, not-false}
-use lib.Dec.{eqb, leb, lit<}
+use lib.Dec.{eqb, lit<}
 use lib.IntN.{ℤ}
-use lib.ListN.{length, length-set, set}
+use lib.ListN.{length}
 use Rattle.numbers.proofs.Truth.{both-true}
 use Rattle.numbers.proofs.Walk.{cases}
 use Rattle.refusal.specs.Refusal.{_when_, first}
 use Rattle.refusal.proofs.FirstLaws.{first-skip, first-here, first-zero}
 use Rattle.midpoint.specs.Order.{Permuted}
-use Rattle.midpoint.proofs.OrderLaws.{permuted-length}
-use Rattle.checksum.specs.declared.Channel.{Channel}
 use Rattle.frame.specs.declared.header.Cycle.{Cycle}
-use Rattle.frame.specs.declared.header.Slot.{Slot}
 use Rattle.frame.specs.Refusals.{cycleTooHigh}
 use Rattle.settings.specs.declared.Settings.{Settings}
-use Rattle.settings.specs.Sheet.{outOfRange, decodingCorrection, syncIdLimit, offsetLimit, rateLimit, driftDamping, externalOffsetUnit, externalRateUnit}
+use Rattle.settings.specs.Sheet.{outOfRange, decodingCorrection, syncIdLimit, offsetLimit, rateLimit, driftDamping}
 use Rattle.slot.specs.declared.status.Status.{Status}
 use Rattle.slot.specs.Sound as slot
 use Rattle.correction.specs.declared.microtick.Microtick.{Microtick}
 use Rattle.correction.specs.declared.term.Term.{Term}
-use Rattle.correction.specs.Microtick.{whole, aboveTimeLimit}
+use Rattle.correction.specs.Microtick.{aboveTimeLimit}
 use Rattle.correction.specs.Deviation.{deviation}
 use Rattle.correction.specs.Terms.{offsetTerm, rateTerm}
-use Rattle.correction.specs.External.{notAControl, withExternal}
+use Rattle.correction.specs.External.{notAControl}
 use Rattle.sync_list.specs.declared.row.Measurement.{Measurement}
-use Rattle.sync_list.specs.declared.list.SyncList.{SyncList}
-use Rattle.sync_list.specs.Rows.{withMeasured}
-use Rattle.sync_list.specs.Lists.{rowCount, empty, listed, idsOf, isAmong, placeOf, rowIn, recorded}
+use Rattle.sync_list.specs.Lists.{rowCount, empty, listed, recorded}
 use Rattle.sync_list.specs.Sound.{listSound}
-use Rattle.sync_list.specs.Values.{rateValues}
 use Rattle.measurements.specs.Measurements.{standsFor, differentIds}
 use Rattle.measurements.specs.Terms.{offsetValuesOf, rateValuesOf}
 use Rattle.measurements.proofs.AddingLaws.{recorded-permuted}
-use Rattle.measurements.proofs.OrderLaws.{ids-permuted, offset-permuted, rate-permuted}
-use Rattle.measurements.proofs.RowLaws.{rows-offset, rows-rate}
 use Rattle.clock.specs.declared.state.CycleOrNone.{CycleOrNone}
 use Rattle.clock.specs.declared.state.CycleOrNone.the-variants.{NoCycle, Is}
 use Rattle.clock.specs.declared.state.Clock.{Clock}
@@ -47,14 +39,15 @@ use Rattle.clock.specs.Sound.{sound}
 use Rattle.clock.specs.Opening.{openingRefusals, keepsEven, evenAfter, openedOn}
 use Rattle.clock.specs.Measuring.{frameOf, delayOn, noSyncFrame, otherCycle, measuredAlready, listFull, deviationBy, measuredOn}
 use Rattle.clock.specs.Measuring as measuring
-use Rattle.clock.specs.Closing.{closingRefusals, offsetFound, rateStored, rateFound, reportOf, closedOn}
-use Rattle.clock.proofs.SoundLaws.{clauses, at-most, rows-good, ids-different, count-within}
+use Rattle.clock.specs.Closing.{closingRefusals, offsetFound, storedTerm, rateFound, reportWith, reportOf, closedOn}
+use Rattle.clock.proofs.SoundLaws.{clauses, at-most, count-within}
 use Rattle.clock_claims.specs.Typed.{TypedList}
 use Rattle.clock_claims.specs.Histories.{InUse, Since, justLoaded, ofCycles, ofCycle, keptOf, current, ofCurrent, afterOpening, isFull, deviationIn, afterMeasuring, offsetIn, rateIn, reportIn, afterClosing, openRefusals, measureRefusals, closeRefusals, isEven, HoldsSince}
 use Rattle.clock_claims.proofs.InUse.{Every, every, cycles-same, kept-every, kept-all, cycles-none, cycles-more, cycles-other, cycles-nil, odd-not-even, before-odd, OfOpen, OfClosed, open-closed, own-open, before-open}
-use Rattle.clock_claims.proofs.Recorded.{has-place, list-of-sound, list-of-typed}
+use Rattle.clock_claims.proofs.Recorded.{has-place, recorded-typed, list-of-sound, list-of-typed}
+use Rattle.clock_claims.proofs.Reports.{offset-over, rate-over, count-over}
 use Rattle.clock_claims.proofs.SoundCalls.{fresh-sound, opened-on-sound, measured-on-sound, closed-on-sound}
-use Rattle.clock_claims.proofs.TakenLaws.{taken-permuted, full-permuted, list-taken, list-count, list-full}
+use Rattle.clock_claims.proofs.TakenLaws.{taken-permuted, full-permuted, list-taken, list-full}
 
 -- ---- the relation
 
@@ -67,10 +60,9 @@ Steady (Is cycle) last l = Every (OfOpen (cycle .0)) l
 Steady NoCycle (Is cycle) l = Every (OfClosed (cycle .0)) l
 Steady NoCycle NoCycle l = Unit
 
--- The state holds what has happened, is sound, and has fifteen rows in each list.
+-- The state holds what has happened, and has fifteen rows in each list.
 pub record Follows (s : Since) (c : Clock) : Type 0 where
   pub holds : HoldsSince s c
-  pub good : sound c ≡ true
   pub even-typed : TypedList (c .even)
   pub odd-typed : TypedList (c .odd)
   pub steady : Steady (s .opened) (s .lastClosed) (s .inUse)
@@ -86,6 +78,7 @@ follows-load settings e =
     record {
       holds =
           record {
+            good = fresh-sound settings e;
             settings = refl;
             opened = refl;
             lastClosed = refl;
@@ -93,7 +86,6 @@ follows-load settings e =
             even = nothing-in isEven;
             odd = nothing-in isOddNumber;
           };
-      good = fresh-sound settings e;
       even-typed = refl;
       odd-typed = refl;
       steady = tt;
@@ -117,7 +109,7 @@ steady-open NoCycle l ms st there = absurd (false≢true there)
 module _ (s : Since) (c : Clock) (f : Follows s c) (cycle : Cycle) where
   pub open-number : first (openingRefusals c cycle) ≡ first (openRefusals s cycle)
   open-number =
-      first-skip 23 _ (ap not (f .good))
+      first-skip 23 _ (ap not (f .holds .good))
       ∙ ap (λ (o : CycleOrNone). first (11 when cycleTooHigh (cycle .0) ∷ 19 when isThere o ∷ [])) (f .holds .opened)
 
   -- the even list stays: an odd cycle follows the last closed one
@@ -177,6 +169,7 @@ module _ (s : Since) (c : Clock) (f : Follows s c) (cycle : Cycle) where
         record {
           holds =
               record {
+                good = opened-on-sound c cycle (f .holds .good) low;
                 settings = f .holds .settings;
                 opened = refl;
                 lastClosed = f .holds .lastClosed;
@@ -184,7 +177,6 @@ module _ (s : Since) (c : Clock) (f : Follows s c) (cycle : Cycle) where
                 even = even-opened;
                 odd = odd-opened;
               };
-          good = opened-on-sound c cycle (f .good) low;
           even-typed =
               cases (keepsEven c cycle)
               (λ t. ap (λ (b : Bool). length (cond b (c .even) empty .rows)) t ∙ f .even-typed)
@@ -203,7 +195,7 @@ module _ (s : Since) (c : Clock) (f : Follows s c) where
   settings-is = f .holds .settings
 
   limit-small : syncIdLimit (c .settings) ≤ rowCount
-  limit-small = at-most (c .settings) (clauses c (f .good) .settings) 4 (lit< tt)
+  limit-small = at-most (c .settings) (clauses c (f .holds .good) .settings) 4 (lit< tt)
 
   module _ (there : isThere (s .opened) ≡ true) where
     of-open : Every (OfOpen (current s .0)) (s .inUse)
@@ -236,34 +228,19 @@ module _ (s : Since) (c : Clock) (f : Follows s c) where
         (sym (cycles-same (λ (n : ℕ). eqb n (current s .0 - 1)) isEven (s .inUse) (every (λ m h. h .1 odd) (s .inUse) of-open))) (f .holds .even)
 
     list-good : listSound (syncIdLimit (c .settings)) (listOf (openCycle c) c) ≡ true
-    list-good = list-of-sound c (openCycle c) (f .good)
+    list-good = list-of-sound c (openCycle c) (f .holds .good)
 
     list-typed : TypedList (listOf (openCycle c) c)
     list-typed = list-of-typed c (openCycle c) (f .even-typed) (f .odd-typed)
 
     pub count-is : listOf (openCycle c) c .count ≡ length (differentIds (ofCurrent s))
-    count-is =
-        list-count (syncIdLimit (c .settings)) (listOf (openCycle c) c) list-typed limit-small list-good
-        ∙ permuted-length (ids-permuted list-holds)
+    count-is = count-over c (f .holds .good) (list-typed) (ofCurrent s) list-holds
 
 -- ---- measuring
 
 open-steady : (o l : CycleOrNone) (ms : List InUse) → isThere o ≡ true → Every (OfOpen (cycleIn o .0)) ms → Steady o l ms
 open-steady (Is cycle) l ms there e = e
 open-steady NoCycle l ms there e = absurd (false≢true there)
-
-recorded-typed : (id : Slot) (channel : Channel) (m : Measurement) (l : SyncList) → TypedList l → TypedList (recorded id channel m l)
-recorded-typed id channel m l typed =
-    cases (leb rowCount (placeOf id l))
-    (λ t. ap (λ (b : Bool). length (cond b l (placed) .rows)) t ∙ typed)
-    (λ t. ap (λ (b : Bool). length (cond b l (placed) .rows)) t ∙ length-set (l .rows) (placeOf id l) (withMeasured channel m (rowIn id (listed l))) ∙ typed)
-  where
-    placed : SyncList
-    placed =
-        record {
-          rows = set (l .rows) (placeOf id l) (withMeasured channel m (rowIn id (listed l)));
-          count = cond (isAmong (id .0) (idsOf (listed l))) (l .count) (suc (placeOf id l));
-        }
 
 module _ (s : Since) (c : Clock) (f : Follows s c) (status : Status) (observed actionPoint : Microtick) where
   pub deviation-is : deviationBy c status observed actionPoint ≡ deviationIn s status observed actionPoint
@@ -279,7 +256,7 @@ module _ (s : Since) (c : Clock) (f : Follows s c) (status : Status) (observed a
       let good = list-good s c f there in
       let small = limit-small s c f in
       let p = list-holds s c f there in
-      let p23 = ap (λ (b : Bool). not (b && slot.sound status)) (f .good) in
+      let p23 = ap (λ (b : Bool). not (b && slot.sound status)) (f .holds .good) in
       let p18 = ap (λ (o : CycleOrNone). not (isThere o)) (f .holds .opened) in
       let p22 = ap (λ (n : Cycle). not (eqb (frameOf status .cycle .0) (n .0))) (now-is s c f) in
       let p16 = list-taken limit l typed small good id (status .channel) ∙ taken-permuted (id .0) (status .channel) p in
@@ -301,7 +278,7 @@ module _ (s : Since) (c : Clock) (f : Follows s c) (status : Status) (observed a
   -- where no cycle is open, 23 or 18 comes before what is measured is looked at
   number-closed : isThere (s .opened) ≡ false → first (measuring.measureRefusals c status observed actionPoint) ≡ first (measureRefusals s status observed actionPoint)
   number-closed closed =
-      let ours = ap (λ (b : Bool). not (b && slot.sound status)) (f .good) in
+      let ours = ap (λ (b : Bool). not (b && slot.sound status)) (f .holds .good) in
       let none = ap (λ (o : CycleOrNone). not (isThere o)) (f .holds .opened) ∙ ap not closed in
       cases (slot.sound status)
       (λ t.
@@ -393,6 +370,7 @@ module _ (s : Since) (c : Clock) (f : Follows s c) (status : Status) (observed a
         record {
           holds =
               record {
+                good = measured-on-sound c status observed actionPoint (f .even-typed) (f .odd-typed) zero;
                 settings = f .holds .settings;
                 opened = f .holds .opened;
                 lastClosed = f .holds .lastClosed;
@@ -400,7 +378,6 @@ module _ (s : Since) (c : Clock) (f : Follows s c) (status : Status) (observed a
                 even = even-measured;
                 odd = odd-measured;
               };
-          good = measured-on-sound c status observed actionPoint (f .even-typed) (f .odd-typed) zero;
           even-typed =
               cases (isOdd (openCycle c))
               (λ t. ap (λ (b : Bool). length (cond b (c .even) rec .rows)) t ∙ f .even-typed)
@@ -417,73 +394,42 @@ module _ (s : Since) (c : Clock) (f : Follows s c) (status : Status) (observed a
 module _ (s : Since) (c : Clock) (f : Follows s c) where
   pub close-number : (offsetControl rateControl : ℤ) → first (closingRefusals c offsetControl rateControl) ≡ first (closeRefusals s offsetControl rateControl)
   close-number offsetControl rateControl =
-      first-skip 23 _ (ap not (f .good))
+      first-skip 23 _ (ap not (f .holds .good))
       ∙ ap (λ (o : CycleOrNone). first (18 when not (isThere o) ∷ 21 when (notAControl offsetControl || notAControl rateControl) ∷ [])) (f .holds .opened)
 
   module _ (there : isThere (s .opened) ≡ true) where
+    -- only an odd cycle looks at the one before it
+    before-permuted : isOdd (openCycle c) ≡ true → Permuted (standsFor (listed (c .even))) (ofCycle (current s .0 - 1) (s .inUse))
+    before-permuted t = before-holds s c f there (not-true (isEven (current s .0)) (sym (odd-is s c f there) ∙ t))
+
     offset-is : offsetFound c ≡ offsetIn s
     offset-is =
-        let l = listOf (openCycle c) c in
-        let good = list-good s c f there in
-        let limit = syncIdLimit (c .settings) in
-        ap (λ (v : List ℤ). offsetTerm v (c .settings .«sends_sync») (offsetLimit (c .settings)))
-        (sym (rows-offset (listed l) (rows-good limit l good) (ids-different limit l good)))
-        ∙ offset-permuted (list-holds s c f there) (c .settings .«sends_sync») (offsetLimit (c .settings))
+        offset-over c (f .holds .good) (ofCurrent s) (list-holds s c f there)
         ∙ ap (λ (k : Settings). offsetTerm (offsetValuesOf (ofCurrent s)) (k .«sends_sync») (offsetLimit k)) (settings-is s c f)
 
-    rate-odd : isOdd (openCycle c) ≡ true → rateFound c ≡ rateIn s
-    rate-odd t =
-        let even-good = clauses c (f .good) .even in
-        let odd-good = clauses c (f .good) .odd in
-        let limit = syncIdLimit (c .settings) in
-        let odd-number : isEven (current s .0) ≡ false = not-true (isEven (current s .0)) (sym (odd-is s c f there) ∙ t) in
-        let odd-holds : Permuted (standsFor (listed (c .odd))) (ofCurrent s) =
-        subst (λ (k : Bool). Permuted (standsFor (listed (cond k (c .odd) (c .even)))) (ofCurrent s)) t (list-holds s c f there) in
-        ap (λ (b : Bool). cond b (rateTerm whole (rateValues whole (listed (c .odd)) (listed (c .even))) (c .settings .«sends_sync») (c .rate .0) (driftDamping (c .settings)) (rateLimit (c .settings))) (rateStored c)) t
-        ∙ ap (λ (v : List ℤ). rateTerm whole v (c .settings .«sends_sync») (c .rate .0) (driftDamping (c .settings)) (rateLimit (c .settings)))
-        (sym (rows-rate (listed (c .odd)) (listed (c .even)) (rows-good limit (c .odd) odd-good) (ids-different limit (c .odd) odd-good) (ids-different limit (c .even) even-good)))
-        ∙ rate-permuted odd-holds (before-holds s c f there odd-number) (c .settings .«sends_sync») (c .rate .0) (driftDamping (c .settings)) (rateLimit (c .settings))
-        ∙ ap₂ (λ (k : Settings) (r : ℤ). rateTerm whole (rateValuesOf (ofCurrent s) (ofCycle (current s .0 - 1) (s .inUse))) (k .«sends_sync») r (driftDamping k) (rateLimit k))
-        (settings-is s c f) (f .holds .rate)
-        ∙ sym
-        (ap (λ (b : Bool). cond b
-        (rateTerm whole (rateValuesOf (ofCurrent s) (ofCycle (current s .0 - 1) (s .inUse))) (s .settings .«sends_sync») (s .rate) (driftDamping (s .settings)) (rateLimit (s .settings)))
-        (record { value = record { 0 = s .rate }; «is_missing» = false; «is_limited» = false }))
-        (ap isOdd (sym (now-is s c f)) ∙ t))
-
-    rate-even : isOdd (openCycle c) ≡ false → rateFound c ≡ rateIn s
-    rate-even t =
-        ap (λ (b : Bool). cond b (rateTerm whole (rateValues whole (listed (c .odd)) (listed (c .even))) (c .settings .«sends_sync») (c .rate .0) (driftDamping (c .settings)) (rateLimit (c .settings))) (rateStored c)) t
-        ∙ ap (λ (r : ℤ). record { value = record { 0 = r }; «is_missing» = false; «is_limited» = false }) (f .holds .rate)
-        ∙ sym
-        (ap (λ (b : Bool). cond b
-        (rateTerm whole (rateValuesOf (ofCurrent s) (ofCycle (current s .0 - 1) (s .inUse))) (s .settings .«sends_sync») (s .rate) (driftDamping (s .settings)) (rateLimit (s .settings)))
-        (record { value = record { 0 = s .rate }; «is_missing» = false; «is_limited» = false }))
-        (ap isOdd (sym (now-is s c f)) ∙ t))
-
     rate-is : rateFound c ≡ rateIn s
-    rate-is = cases (isOdd (openCycle c)) rate-odd rate-even
+    rate-is =
+        let cycle = now-is s c f in
+        let settings = settings-is s c f in
+        let rate = f .holds .rate in
+        rate-over c (f .holds .good) (ofCurrent s) (list-holds s c f there) (ofCycle (current s .0 - 1) (s .inUse)) before-permuted
+        ∙ (λ i.
+        cond (isOdd (cycle i))
+        (rateTerm (rateValuesOf (ofCurrent s) (ofCycle (current s .0 - 1) (s .inUse))) (settings i .«sends_sync») (rate i) (driftDamping (settings i)) (rateLimit (settings i)))
+        (storedTerm (rate i)))
 
     pub report-is : (offsetControl rateControl : ℤ) → reportOf c offsetControl rateControl ≡ reportIn s offsetControl rateControl
     report-is offsetControl rateControl =
         let settings = settings-is s c f in
         let count = count-is s c f there in
-        λ i.
-        record {
-          offset = record { 0 = withExternal (offset-is i .value .0) offsetControl (externalOffsetUnit (settings i)) };
-          rate = record { 0 = withExternal (rate-is i .value .0) rateControl (externalRateUnit (settings i)) };
-          «offset_missing» = offset-is i .«is_missing»;
-          «rate_missing» = rate-is i .«is_missing»;
-          «offset_limited» = offset-is i .«is_limited»;
-          «rate_limited» = rate-is i .«is_limited»;
-          ids = count i;
-        }
+        λ i. reportWith (settings i) (offset-is i) (rate-is i) (count i) offsetControl rateControl
 
     pub follows-close : Follows (afterClosing s) (closedOn c)
     follows-close =
         record {
           holds =
               record {
+                good = closed-on-sound c (f .holds .good) (ap isThere (f .holds .opened) ∙ there);
                 settings = f .holds .settings;
                 opened = refl;
                 lastClosed = ap Is (now-is s c f);
@@ -491,7 +437,6 @@ module _ (s : Since) (c : Clock) (f : Follows s c) where
                 even = f .holds .even;
                 odd = f .holds .odd;
               };
-          good = closed-on-sound c (f .good) (ap isThere (f .holds .opened) ∙ there);
           even-typed = f .even-typed;
           odd-typed = f .odd-typed;
           steady = every (open-closed (current s .0)) (s .inUse) (of-open s c f there);

@@ -15,8 +15,6 @@ use Rattle.settings.specs.Sheet.{outOfRange}
 use Rattle.slot.specs.declared.status.Status.{Status}
 use Rattle.slot.specs.Sound as slot
 use Rattle.correction.specs.declared.microtick.Microtick.{Microtick}
-use Rattle.sync_list.specs.Lists.{listed}
-use Rattle.measurements.specs.Measurements.{standsFor}
 use Rattle.clock.specs.declared.state.Clock.{Clock}
 use Rattle.clock.specs.declared.loading.Loaded.{Loaded}
 use Rattle.clock.specs.declared.opening.CycleOpened.{CycleOpened}
@@ -33,7 +31,7 @@ use Rattle.clock.specs.Measuring as measuring
 use Rattle.clock.specs.Measuring.{MeasureSays, deviationBy, measuredOn}
 use Rattle.clock.specs.Closing as closing
 use Rattle.clock.specs.Closing.{CloseSays, closingRefusals, reportOf, closedOn, noReport}
-use Rattle.clock_claims.specs.Histories.{Call, load, openCycle, measure, closeCycle, Answer, loaded, opened, measured, closed, Since, Past, nothing, since, justLoaded, afterOpening, deviationIn, afterMeasuring, reportIn, afterClosing, openRefusals, measureRefusals, closeRefusals, next, answer, pastOf, answersOf, Makes, Makes-all, Holds, Histories, SinceLoad, LoadFresh}
+use Rattle.clock_claims.specs.Histories.{Call, load, openCycle, measure, closeCycle, Answer, loaded, opened, measured, closed, Since, Past, nothing, since, justLoaded, afterOpening, deviationIn, afterMeasuring, reportIn, afterClosing, openRefusals, measureRefusals, closeRefusals, next, answer, pastOf, answersOf, Makes, MakesAll, Holds, Histories, SinceLoad, LoadFresh}
 use Rattle.clock_claims.proofs.Answers.{load-one, open-one, measure-one, close-one}
 use Rattle.clock_claims.proofs.Sound.{no-clock-unsound}
 use Rattle.clock_claims.proofs.Follows.{Follows, follows-load, open-number, follows-open, deviation-is, measure-number, follows-measure, close-number, report-is, follows-close}
@@ -180,7 +178,7 @@ one-call (since s) c (closeCycle offsetControl rateControl) a d t (r, h, ea, ed)
 
 -- ---- all calls
 
-all-calls : (past : Past) (c : Clock) (calls : List Call) (answers : List Answer) (d : Clock) → Tracks past c → Makes-all c calls answers d
+all-calls : (past : Past) (c : Clock) (calls : List Call) (answers : List Answer) (d : Clock) → Tracks past c → MakesAll c calls answers d
     → (answers ≡ answersOf past calls) × Holds (pastOf past calls) d
 unfolding pastOf answersOf
 all-calls past c [] answers d t (ea, ed) = (ea, subst (Holds past) ed (tracks-holds past c t))
@@ -210,19 +208,19 @@ one-result c (closeCycle offsetControl rateControl) a a′ d d′ (r, h, ea, ed)
     let same = close-one c offsetControl rateControl r r′ h h′ in
     (ea ∙ ap (λ (x : CycleClosed). closed (closing.told (x .answer))) same ∙ sym ea′, ed ∙ ap (λ (x : CycleClosed). x .clock) same ∙ sym ed′)
 
-same-calls : (c : Clock) (calls : List Call) (answers answers′ : List Answer) (d d′ : Clock) → Makes-all c calls answers d → Makes-all c calls answers′ d′
+same-calls : (c : Clock) (calls : List Call) (answers answers′ : List Answer) (d d′ : Clock) → MakesAll c calls answers d → MakesAll c calls answers′ d′
     → (answers ≡ answers′) × (d ≡ d′)
 same-calls c [] answers answers′ d d′ (ea, ed) (ea′, ed′) = (ea ∙ sym ea′, sym ed ∙ ed′)
 same-calls c (call ∷ calls) [] answers′ d d′ makes makes′ = absurd makes
 same-calls c (call ∷ calls) (a ∷ answers) [] d d′ makes makes′ = absurd makes′
 same-calls c (call ∷ calls) (a ∷ answers) (a′ ∷ answers′) d d′ (m, one, rest) (m′, one′, rest′) =
     let x = one-result c call a a′ m m′ one one′ in
-    let y = same-calls m calls answers answers′ d d′ rest (subst (λ (k : Clock). Makes-all k calls answers′ d′) (sym (x .1)) rest′) in
+    let y = same-calls m calls answers answers′ d d′ rest (subst (λ (k : Clock). MakesAll k calls answers′ d′) (sym (x .1)) rest′) in
     (ap₂ (λ (a : Answer) (l : List Answer). a ∷ l) (x .0) (y .0), y .1)
 
 -- a load does not look at the state
 load-anywhere : (m m′ : Clock) (settings : Settings) (calls : List Call) (answers : List Answer) (d : Clock)
-    → Makes-all m (load settings ∷ calls) answers d → Makes-all m′ (load settings ∷ calls) answers d
+    → MakesAll m (load settings ∷ calls) answers d → MakesAll m′ (load settings ∷ calls) answers d
 load-anywhere m m′ settings calls [] d makes = makes
 load-anywhere m m′ settings calls (a ∷ answers) d makes = makes
 
@@ -231,14 +229,13 @@ since-load c c′ m m′ d d′ before before′ calls earlier earlier′ answer
     same-calls m (load settings ∷ calls) answers answers′ d d′ makes (load-anywhere m′ m settings calls answers′ d′ makes′)
 
 pub load-fresh : LoadFresh
-unfolding standsFor
 load-fresh settings r h e =
     let zero : first (loadRefusals settings) ≡ 0 = sym (ap (λ (t : loading.Told). t .number) (h .answers)) ∙ e in
     let same : r .clock ≡ fresh settings = h .leaves ∙ if-accepted _ (fresh settings) noClock zero in
     record {
       settings = ap (λ (c : Clock). c .settings) same;
-      even = ap (λ (c : Clock). standsFor (listed (c .even))) same;
-      odd = ap (λ (c : Clock). standsFor (listed (c .odd))) same;
+      even = ap (λ (c : Clock). c .even) same;
+      odd = ap (λ (c : Clock). c .odd) same;
       opened = ap (λ (c : Clock). c .opened) same;
       lastClosed = ap (λ (c : Clock). c .«last_closed») same;
       rate = ap (λ (c : Clock). c .rate .0) same;

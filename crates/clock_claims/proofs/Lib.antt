@@ -3,8 +3,11 @@ pub mod Members
 pub mod Lists
 pub mod Sound
 pub mod Recorded
+pub mod Typed
 pub mod SoundCalls
-pub mod InUse
 pub mod TakenLaws
+pub mod Reports
+pub mod InUse
 pub mod Follows
 pub mod Histories
+pub mod Witnesses

@@ -1,11 +1,11 @@
 -- A measurement that is taken leaves a sound list: there is room for it, its ID is one, and its deviation is in range.
-use Prim.Native.Nat.{ℕ, _≤_, _<_}
+use Prim.Native.Nat.{ℕ, suc, _≤_, _<_}
 use mathlib.Core.Path.{_≡_, refl, sym, ap, subst, _∙_}
 use mathlib.Core.Bool.{Bool, true, false, false≢true, not, cond}
 use native.Mathlib.Omega.{arith}
 use borrow.Author.Tests.{le-leb, leb-false, ltb-true, ltb-false, not-true}
 use lib.Dec.{leb, ltb}
-use lib.ListN.{length}
+use lib.ListN.{length, length-set, set}
 use Rattle.numbers.proofs.Truth.{both-true, true-both}
 use Rattle.numbers.proofs.Walk.{cases}
 use Rattle.checksum.specs.declared.Channel.{Channel}
@@ -23,7 +23,8 @@ use Rattle.settings.specs.Sheet.{syncIdLimit}
 use Rattle.correction.specs.Microtick.{isDeviation}
 use Rattle.sync_list.specs.declared.row.Measurement.{Measurement}
 use Rattle.sync_list.specs.declared.list.SyncList.{SyncList}
-use Rattle.sync_list.specs.Lists.{rowCount, listed, idsOf, isAmong, placeOf as listPlace, isFullFor, recorded, noneTwice}
+use Rattle.sync_list.specs.Rows.{withMeasured}
+use Rattle.sync_list.specs.Lists.{rowCount, listed, idsOf, isAmong, placeOf as listPlace, isFullFor, recorded, noneTwice, rowIn}
 use Rattle.sync_list.specs.Sound.{listSound, rowsSound}
 use Rattle.sync_list.proofs.ListLaws.{ids-long, listed-few}
 use Rattle.sync_list.proofs.PlaceLaws.{among-place, place-most}
@@ -122,3 +123,18 @@ list-of-typed c cycle te to =
     cases (isOdd cycle)
     (λ t. ap (λ (b : Bool). length (cond b (c .odd) (c .even) .rows)) t ∙ to)
     (λ t. ap (λ (b : Bool). length (cond b (c .odd) (c .even) .rows)) t ∙ te)
+
+-- ---- fifteen rows stay fifteen
+
+pub recorded-typed : (id : Slot) (channel : Channel) (m : Measurement) (l : SyncList) → TypedList l → TypedList (recorded id channel m l)
+recorded-typed id channel m l typed =
+    cases (leb rowCount (listPlace id l))
+    (λ t. ap (λ (b : Bool). length (cond b l (placed) .rows)) t ∙ typed)
+    (λ t. ap (λ (b : Bool). length (cond b l (placed) .rows)) t ∙ length-set (l .rows) (listPlace id l) (withMeasured channel m (rowIn id (listed l))) ∙ typed)
+  where
+    placed : SyncList
+    placed =
+        record {
+          rows = set (l .rows) (listPlace id l) (withMeasured channel m (rowIn id (listed l)));
+          count = cond (isAmong (id .0) (idsOf (listed l))) (l .count) (suc (listPlace id l));
+        }

@@ -7,6 +7,7 @@ use Rattle.refusal.specs.Refusal.{InOrder}
 use Rattle.frame.specs.declared.header.Cycle.{Cycle}
 use Rattle.settings.specs.declared.Settings.{Settings}
 use Rattle.slot.specs.declared.status.Status.{Status}
+use Rattle.slot_claims.specs.Sheet.{TypedSettings, FieldTold}
 use Rattle.correction.specs.declared.microtick.Microtick.{Microtick}
 use Rattle.clock.specs.declared.state.Clock.{Clock}
 use Rattle.clock.specs.declared.loading.Loaded.{Loaded}
@@ -59,6 +60,12 @@ abbrev pub CloseInOrder : Type 0
 CloseInOrder =
     (clock : Clock) (offsetControl rateControl : ℤ) (r : CycleClosed) → CloseSays clock offsetControl rateControl r
     → InOrder (closing.closingRefusals clock offsetControl rateControl) (closing.told (r .answer) .number)
+
+-- ---- the field that 17 returns is the first out of range, and 0 where all are in range
+
+abbrev pub LoadField : Type 0
+LoadField =
+    (settings : Settings) (r : Loaded) → TypedSettings settings → LoadSays settings r → FieldTold settings (loading.told (r .answer) .field)
 
 -- ---- beside a refusal every other number is 0 and every flag clear; the state is all zeros where none was handed in, and otherwise the
 -- very one that was

@@ -3,7 +3,7 @@
 -- no clock state: from the calls alone it works out the measurements in use, each with the cycle it was taken in.
 use Prim.Native.Nat.{ℕ, _-_, _%_}
 use mathlib.Core.Path.{_≡_}
-use mathlib.Core.Bool.{Bool, false, not, _&&_, _||_, cond}
+use mathlib.Core.Bool.{Bool, true, false, not, _&&_, _||_, cond}
 use mathlib.Core.List.{List, [], _∷_}
 use lib.Dec.{eqb, leb}
 use lib.IntN.{ℤ, pos}
@@ -14,16 +14,16 @@ use Rattle.checksum.specs.declared.Channel.{Channel}
 use Rattle.frame.specs.declared.header.Cycle.{Cycle}
 use Rattle.frame.specs.Refusals.{cycleTooHigh}
 use Rattle.settings.specs.declared.Settings.{Settings}
-use Rattle.settings.specs.Sheet.{firstOutOfRange, outOfRange, syncIdLimit, decodingCorrection, offsetLimit, rateLimit, driftDamping, externalOffsetUnit, externalRateUnit}
+use Rattle.settings.specs.Sheet.{firstOutOfRange, outOfRange, syncIdLimit, decodingCorrection, offsetLimit, rateLimit, driftDamping}
 use Rattle.slot.specs.declared.status.Status.{Status}
 use Rattle.slot.specs.Sound as slot
 use Rattle.correction.specs.declared.microtick.Microtick.{Microtick}
 use Rattle.correction.specs.declared.term.Term.{Term}
-use Rattle.correction.specs.Microtick.{whole, aboveTimeLimit}
+use Rattle.correction.specs.Microtick.{aboveTimeLimit}
 use Rattle.correction.specs.Deviation.{deviation}
 use Rattle.correction.specs.Terms.{offsetTerm, rateTerm}
-use Rattle.correction.specs.External.{notAControl, withExternal}
-use Rattle.sync_list.specs.Lists.{isAmong, listed}
+use Rattle.correction.specs.External.{notAControl}
+use Rattle.sync_list.specs.Lists.{isAmong, listed, empty}
 use Rattle.measurements.specs.Measurements.{Taken, standsFor, differentIds, sameChannel}
 use Rattle.measurements.specs.Terms.{offsetValuesOf, rateValuesOf}
 use Rattle.clock.specs.declared.state.CycleOrNone.{CycleOrNone}
@@ -35,6 +35,7 @@ use Rattle.clock.specs.declared.measuring.FrameMeasured.{FrameMeasured}
 use Rattle.clock.specs.declared.closing.Report.{Report}
 use Rattle.clock.specs.declared.closing.CycleClosed.{CycleClosed}
 use Rattle.clock.specs.State.{isThere, cycleIn, isCycle, isOdd, noClock}
+use Rattle.clock.specs.Sound.{sound}
 use Rattle.clock.specs.Loading as loading
 use Rattle.clock.specs.Loading.{LoadSays}
 use Rattle.clock.specs.Opening as opening
@@ -42,7 +43,7 @@ use Rattle.clock.specs.Opening.{OpenCycleSays}
 use Rattle.clock.specs.Measuring as measuring
 use Rattle.clock.specs.Measuring.{frameOf, noSyncFrame, delayOn, MeasureSays}
 use Rattle.clock.specs.Closing as closing
-use Rattle.clock.specs.Closing.{noReport, CloseSays}
+use Rattle.clock.specs.Closing.{storedTerm, reportWith, noReport, CloseSays}
 
 -- ---- calls
 
@@ -153,22 +154,13 @@ offsetIn s = offsetTerm (offsetValuesOf (ofCurrent s)) (s .settings .«sends_syn
 abbrev pub rateIn : Since → Term
 rateIn s =
     cond (isOdd (current s))
-    (rateTerm whole (rateValuesOf (ofCurrent s) (ofCycle (current s .0 - 1) (s .inUse))) (s .settings .«sends_sync») (s .rate)
+    (rateTerm (rateValuesOf (ofCurrent s) (ofCycle (current s .0 - 1) (s .inUse))) (s .settings .«sends_sync») (s .rate)
     (driftDamping (s .settings))
     (rateLimit (s .settings)))
-    (record { value = record { 0 = s .rate }; «is_missing» = false; «is_limited» = false })
+    (storedTerm (s .rate))
 
 abbrev pub reportIn : Since → ℤ → ℤ → Report
-reportIn s offsetControl rateControl =
-    record {
-      offset = record { 0 = withExternal (offsetIn s .value .0) offsetControl (externalOffsetUnit (s .settings)) };
-      rate = record { 0 = withExternal (rateIn s .value .0) rateControl (externalRateUnit (s .settings)) };
-      «offset_missing» = offsetIn s .«is_missing»;
-      «rate_missing» = rateIn s .«is_missing»;
-      «offset_limited» = offsetIn s .«is_limited»;
-      «rate_limited» = rateIn s .«is_limited»;
-      ids = length (differentIds (ofCurrent s));
-    }
+reportIn s = reportWith (s .settings) (offsetIn s) (rateIn s) (length (differentIds (ofCurrent s)))
 
 abbrev pub afterClosing : Since → Since
 afterClosing s =
@@ -249,11 +241,15 @@ Makes c (measure status observed actionPoint) a d =
 Makes c (closeCycle offsetControl rateControl) a d =
     (r : CycleClosed) × CloseSays c offsetControl rateControl r × (a ≡ closed (closing.told (r .answer))) × (d ≡ r .clock)
 
+-- A call on a clock state may leave this state.
+abbrev pub Leaves : Clock → Call → Clock → Type 0
+Leaves c call d = (a : Answer) × Makes c call a d
+
 -- Calls one after the other, each on the state that the one before left.
-abbrev pub Makes-all : Clock → List Call → List Answer → Clock → Type 0
-Makes-all c [] answers d = (answers ≡ []) × (c ≡ d)
-Makes-all c (call ∷ calls) [] d = ⊥
-Makes-all c (call ∷ calls) (a ∷ answers) d = (m : Clock) × Makes c call a m × Makes-all m calls answers d
+abbrev pub MakesAll : Clock → List Call → List Answer → Clock → Type 0
+MakesAll c [] answers d = (answers ≡ []) × (c ≡ d)
+MakesAll c (call ∷ calls) [] d = ⊥
+MakesAll c (call ∷ calls) (a ∷ answers) d = (m : Clock) × Makes c call a m × MakesAll m calls answers d
 
 -- ---- the claims
 
@@ -261,8 +257,9 @@ abbrev pub isEven : ℕ → Bool
 isEven n = eqb (n % 2) 0
 
 -- A clock state holds what has happened: nothing but zeros where nothing is loaded, and otherwise the settings, the cycles, the stored rate,
--- and in its lists exactly the measurements in use, in some order.
+-- and in its lists exactly the measurements in use, in some order. It is sound, so that each list counts its different IDs.
 pub record HoldsSince (s : Since) (c : Clock) : Type 0 where
+  pub good : sound c ≡ true
   pub settings : c .settings ≡ s .settings
   pub opened : c .opened ≡ s .opened
   pub lastClosed : c .«last_closed» ≡ s .lastClosed
@@ -277,7 +274,7 @@ Holds (since s) c = HoldsSince s c
 -- From the all-zero state on, after any sequence of calls: every answer and report is the history's, and the state holds what has happened.
 abbrev pub Histories : Type 0
 Histories =
-    (calls : List Call) (answers : List Answer) (d : Clock) → Makes-all noClock calls answers d
+    (calls : List Call) (answers : List Answer) (d : Clock) → MakesAll noClock calls answers d
     → (answers ≡ answersOf nothing calls) × Holds (pastOf nothing calls) d
 
 -- "loading settings leaves no earlier measurement in use": whatever was called before, on whatever states, two sequences that agree from
@@ -285,15 +282,15 @@ Histories =
 abbrev pub SinceLoad : Type 0
 SinceLoad =
     (c c′ m m′ d d′ : Clock) (before before′ calls : List Call) (earlier earlier′ answers answers′ : List Answer) (settings : Settings)
-    → Makes-all c before earlier m → Makes-all c′ before′ earlier′ m′
-    → Makes-all m (load settings ∷ calls) answers d → Makes-all m′ (load settings ∷ calls) answers′ d′
+    → MakesAll c before earlier m → MakesAll c′ before′ earlier′ m′
+    → MakesAll m (load settings ∷ calls) answers d → MakesAll m′ (load settings ∷ calls) answers′ d′
     → (answers ≡ answers′) × (d ≡ d′)
 
 -- The state that an accepted load leaves, by the settings alone: "both lists empty, no cycle open, none closed, stored rate 0".
 pub record JustLoaded (sheet : Settings) (c : Clock) : Type 0 where
   pub settings : c .settings ≡ sheet
-  pub even : standsFor (listed (c .even)) ≡ []
-  pub odd : standsFor (listed (c .odd)) ≡ []
+  pub even : c .even ≡ empty
+  pub odd : c .odd ≡ empty
   pub opened : c .opened ≡ NoCycle
   pub lastClosed : c .«last_closed» ≡ NoCycle
   pub rate : c .rate .0 ≡ pos 0

@@ -1,4 +1,6 @@
 pub mod Typed
 pub mod Answers
 pub mod Sound
+pub mod Reports
 pub mod Histories
+pub mod Witnesses

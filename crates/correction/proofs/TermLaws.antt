@@ -13,7 +13,7 @@ use lib.Seq.{take-set-le, take-suc-set}
 use Rattle.numbers.proofs.Walk.{cases}
 use Rattle.midpoint.specs.Midpoint.{midpoint, mostValues, midpointOfFirst}
 use Rattle.correction.specs.declared.term.Values.{Values}
-use Rattle.correction.specs.Terms.{mostIds, valuesIn, isNone, withOwn, damped, limited, missing, offsetTerm, rateTerm}
+use Rattle.correction.specs.Terms.{mostIds, valuesIn, isNone, withOwn, damped, limited, missing, offsetTerm, rateTermBy}
 
 -- ---- the values
 
@@ -56,11 +56,11 @@ module _ (sendsSync : Bool) (limit : ℕ) where
   offset-some (v ∷ vs) e = refl
 
   module _ (hold : ℤ → ℤ) (stored : ℤ) (d : ℕ) where
-    pub rate-none : (l : List ℤ) → isNone l ≡ true → rateTerm hold l sendsSync stored d limit ≡ missing stored
+    pub rate-none : (l : List ℤ) → isNone l ≡ true → rateTermBy hold l sendsSync stored d limit ≡ missing stored
     rate-none [] e = refl
     rate-none (v ∷ vs) e = absurd (false≢true e)
 
     pub rate-some : (l : List ℤ) → isNone l ≡ false
-        → rateTerm hold l sendsSync stored d limit ≡ limited limit (damped d (hold (midpoint (withOwn sendsSync l) +ℤ stored)))
+        → rateTermBy hold l sendsSync stored d limit ≡ limited limit (damped d (hold (midpoint (withOwn sendsSync l) +ℤ stored)))
     rate-some [] e = absurd (false≢true (sym e))
     rate-some (v ∷ vs) e = refl

@@ -7,10 +7,11 @@ use lib.IntN.{ℤ, pos, negℤ, _+ℤ_, _-ℤ_}
 use lib.ListN.{take}
 use lib.Signed.{ltZ}
 use Rattle.midpoint.specs.Midpoint.{midpoint}
+use Rattle.correction.specs.Microtick.{whole}
 use Rattle.correction.specs.declared.term.Term.{Term}
 use Rattle.correction.specs.declared.term.Values.{Values}
 
--- The most IDs that a list holds.
+-- The most IDs that a list holds: the highest value of field 4.
 abbrev pub mostIds : ℕ
 mostIds = 15
 
@@ -52,7 +53,10 @@ offsetTerm [] sendsSync limit = missing (pos 0)
 offsetTerm (v ∷ vs) sendsSync limit = limited limit (midpoint (withOwn sendsSync (v ∷ vs)))
 
 -- "None: "rate missing", stored rate kept as it is. Otherwise add the 0 as above, midpoint, plus stored rate; then damp". `hold`
--- says how the sum is held.
-abbrev pub rateTerm : (ℤ → ℤ) → List ℤ → Bool → ℤ → ℕ → ℕ → Term
-rateTerm hold [] sendsSync stored d limit = missing stored
-rateTerm hold (v ∷ vs) sendsSync stored d limit = limited limit (damped d (hold (midpoint (withOwn sendsSync (v ∷ vs)) +ℤ stored)))
+-- says how the sum is held: whole, or as its type holds it.
+abbrev pub rateTermBy : (ℤ → ℤ) → List ℤ → Bool → ℤ → ℕ → ℕ → Term
+rateTermBy hold [] sendsSync stored d limit = missing stored
+rateTermBy hold (v ∷ vs) sendsSync stored d limit = limited limit (damped d (hold (midpoint (withOwn sendsSync (v ∷ vs)) +ℤ stored)))
+
+abbrev pub rateTerm : List ℤ → Bool → ℤ → ℕ → ℕ → Term
+rateTerm = rateTermBy whole

@@ -14,6 +14,7 @@ pub use external::NamedControl;
 pub use external::with_external;
 pub use microtick::Microtick;
 pub use microtick::SignedMicrotick;
+pub use term::MOST_IDS;
 pub use term::Term;
 pub use term::Values;
 pub use term::offset_term;

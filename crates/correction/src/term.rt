@@ -3,11 +3,11 @@ ghost use mathlib.Core.Path.{_≡_};
 ghost use Prim.Native.Nat.{_≤_};
 ghost use Rattle.midpoint.specs.Midpoint.{midpoint};
 ghost use Rattle.correction.specs.Microtick.{held};
-ghost use Rattle.correction.specs.Terms.{mostIds, valuesIn, isNone, withOwn, damped as Terms·damped, limited as Terms·limited, offsetTerm, rateTerm};
+ghost use Rattle.correction.specs.Terms.{mostIds, valuesIn, isNone, withOwn, damped as Terms·damped, limited as Terms·limited, offsetTerm, rateTerm, rateTermBy};
 use crate::microtick::SignedMicrotick;
 
-// The most IDs that a list holds.
-const MOST_IDS: usize = 15;
+// The most IDs that a list holds: the highest value of field 4.
+pub const MOST_IDS: usize = 15;
 
 // The values that a midpoint is taken of: the first `count` numbers. There is room for this node's own zero behind them.
 pub struct Values {
@@ -44,7 +44,7 @@ pub fn rate_term(
     damping: u32,
     limit: u32,
 ) -> Term
-    ensures { λ r. ⌜ r ≡ rateTerm held (valuesIn values) «sends_sync» (stored .0) damping limit ⌝ }
+    ensures { λ r. ⌜ r ≡ rateTermBy held (valuesIn values) «sends_sync» (stored .0) damping limit ⌝ }
 {
     if values.has_none() {
         return Term {

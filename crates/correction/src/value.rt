@@ -1,7 +1,7 @@
 // What an ID adds to a midpoint: one value for the offset, one for the rate, or none.
 ghost use mathlib.Core.Path.{_≡_};
 ghost use Rattle.correction.specs.Microtick.{held};
-ghost use Rattle.correction.specs.Values.{smaller as Values·smaller, difference as Values·difference, joined as Values·joined, offsetValue, rateValue};
+ghost use Rattle.correction.specs.Values.{smaller as Values·smaller, differenceBy, joined as Values·joined, offsetValue, rateValue, rateValueBy};
 use crate::microtick::SignedMicrotick;
 
 // A number of signed microticks, or none.
@@ -27,7 +27,7 @@ pub fn offset_value(deviations: Deviations) -> Value
 
 // The rate value of an ID: odd minus even on each channel with both, and of two channels half the sum.
 pub fn rate_value(odd: Deviations, even: Deviations) -> Value
-    ensures { λ r. ⌜ r ≡ rateValue held odd even ⌝ }
+    ensures { λ r. ⌜ r ≡ rateValueBy held odd even ⌝ }
 {
     let odd_a = odd.on_a;
     let odd_b = odd.on_b;
@@ -54,7 +54,7 @@ fn smaller(one: Value, other: Value) -> Value
 }
 
 fn difference(odd: Value, even: Value) -> Value
-    ensures { λ r. ⌜ r ≡ Values·difference held odd even ⌝ }
+    ensures { λ r. ⌜ r ≡ differenceBy held odd even ⌝ }
 {
     let Value::Is(x) = odd else {
         return Value::Absent;

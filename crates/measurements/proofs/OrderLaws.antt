@@ -70,9 +70,9 @@ both-permuted : (id : ℕ) {ms ns : List Taken} → Permuted ms ns → deviation
 both-permuted id p = λ i. record { «on_a» = on-permuted A id p i; «on_b» = on-permuted B id p i }
 
 pub rate-permuted : {odd odd′ even even′ : List Taken} → Permuted odd odd′ → Permuted even even′ → (sendsSync : Bool) (stored : ℤ) (d limit : ℕ)
-    → rateTerm whole (rateValuesOf odd even) sendsSync stored d limit ≡ rateTerm whole (rateValuesOf odd′ even′) sendsSync stored d limit
+    → rateTerm (rateValuesOf odd even) sendsSync stored d limit ≡ rateTerm (rateValuesOf odd′ even′) sendsSync stored d limit
 rate-permuted {odd} {odd′} {even} {even′} p q sendsSync stored d limit =
-    filled-same (λ values. rateTerm whole values sendsSync stored d limit)
+    filled-same (λ values. rateTerm values sendsSync stored d limit)
     (λ x y xs ys r. ap (λ (z : ℤ). limited limit (damped d (whole (z +ℤ stored)))) (middle-permuted sendsSync r))
     (values-permuted (rateOf odd even) (rateOf odd′ even′)
-    (λ id i. rateValue whole (both-permuted id p i) (both-permuted id q i)) (ids-permuted p))
+    (λ id i. rateValue (both-permuted id p i) (both-permuted id q i)) (ids-permuted p))

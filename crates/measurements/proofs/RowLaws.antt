@@ -14,7 +14,6 @@ use Rattle.frame.specs.declared.header.Slot.{Slot}
 use Rattle.frame.specs.Refusals.{notAnId}
 use Rattle.correction.specs.declared.value.Value.{Value}
 use Rattle.correction.specs.declared.value.Value.the-variants as value
-use Rattle.correction.specs.Microtick.{whole}
 use Rattle.correction.specs.Values.{smaller, offsetValue, rateValue}
 use Rattle.sync_list.specs.declared.row.Measured.{Measured}
 use Rattle.sync_list.specs.declared.row.Measured.the-variants.{Nothing, Is}
@@ -172,13 +171,13 @@ rows-offset rows s n =
     ∙ in-each value rows n)
 
 pub rows-rate : (odd even : List Row) → rowsSound odd ≡ true → noneTwice (idsOf odd) ≡ true → noneTwice (idsOf even) ≡ true
-    → rateValuesOf (standsFor odd) (standsFor even) ≡ rateValues whole odd even
+    → rateValuesOf (standsFor odd) (standsFor even) ≡ rateValues odd even
 rows-rate odd even s n n′ =
-    let value : Row → Value = λ row. rateValue whole (deviationsOf row) (deviationsOf (rowIn (row .id) even)) in
+    let value : Row → Value = λ row. rateValue (deviationsOf row) (deviationsOf (rowIn (row .id) even)) in
     let same : (id : ℕ) → rateOf (standsFor odd) (standsFor even) id ≡ value (rowIn (record { 0 = id }) odd) =
     λ id.
-    (λ i. rateValue whole (row-deviations odd n (record { 0 = id }) i) (row-deviations even n′ (record { 0 = id }) i))
-    ∙ (λ i. rateValue whole (deviationsOf (rowIn (record { 0 = id }) odd)) (deviationsOf (rowIn (record { 0 = sym (in-id (record { 0 = id }) odd) i }) even))) in
+    (λ i. rateValue (row-deviations odd n (record { 0 = id }) i) (row-deviations even n′ (record { 0 = id }) i))
+    ∙ (λ i. rateValue (deviationsOf (rowIn (record { 0 = id }) odd)) (deviationsOf (rowIn (record { 0 = sym (in-id (record { 0 = id }) odd) i }) even))) in
     ap present
     (ap (map (rateOf (standsFor odd) (standsFor even))) (rows-ids odd s n)
     ∙ (λ i. map (λ id. same id i) (idsOf odd))

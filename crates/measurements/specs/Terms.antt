@@ -9,7 +9,6 @@ use Rattle.checksum.specs.declared.Channel.the-variants.{A, B}
 use Rattle.correction.specs.declared.value.Value.{Value}
 use Rattle.correction.specs.declared.value.Value.the-variants.{Absent}
 use Rattle.correction.specs.declared.value.Deviations.{Deviations}
-use Rattle.correction.specs.Microtick.{whole}
 use Rattle.correction.specs.Values.{is, smaller, rateValue}
 use Rattle.sync_list.specs.Values.{present}
 use Rattle.measurements.specs.Measurements.{Taken, differentIds, sameChannel}
@@ -40,7 +39,7 @@ deviationsOn ms id = record { «on_a» = deviationOn A ms id; «on_b» = deviati
 
 -- "per ID and channel with both measurements, odd minus even; two channels: half the sum", of the measurements of both cycles.
 abbrev pub rateOf : List Taken → List Taken → ℕ → Value
-rateOf odd even id = rateValue whole (deviationsOn odd id) (deviationsOn even id)
+rateOf odd even id = rateValue (deviationsOn odd id) (deviationsOn even id)
 
 abbrev pub rateValuesOf : List Taken → List Taken → List ℤ
 rateValuesOf odd even = present (map (rateOf odd even) (differentIds odd))

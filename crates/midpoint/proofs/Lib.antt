@@ -3,3 +3,4 @@ pub mod PassLaws
 pub mod MiddleLaws
 pub mod OrderLaws
 pub mod RangeLaws
+pub mod Words

@@ -1,3 +1,4 @@
 pub mod Midpoint
 pub mod Pass
 pub mod Order
+pub mod Words

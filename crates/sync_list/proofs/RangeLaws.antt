@@ -17,7 +17,7 @@ use Rattle.frame.specs.Refusals.{notAnId}
 use Rattle.correction.specs.declared.value.Value.{Value}
 use Rattle.correction.specs.declared.value.Value.the-variants as value
 use Rattle.correction.specs.Microtick.{lowestDeviation, highestDeviation, isDeviation, held, whole}
-use Rattle.correction.specs.Values.{difference, joined, rateValue}
+use Rattle.correction.specs.Values.{differenceBy, joined, rateValue, rateValueBy}
 use Rattle.correction.proofs.HeldLaws.{held-fits}
 use Rattle.sync_list.specs.declared.row.Measured.{Measured}
 use Rattle.sync_list.specs.declared.row.Measured.the-variants.{Nothing, Is}
@@ -25,7 +25,7 @@ use Rattle.sync_list.specs.declared.row.Row.{Row}
 use Rattle.sync_list.specs.Rows.{blank, isMeasured, valueOf, deviationsOf}
 use Rattle.sync_list.specs.Lists.{idOf, idsOf, placeAmong, rowIn}
 use Rattle.sync_list.specs.Sound.{isInRange, rowSound, rowsSound}
-use Rattle.sync_list.specs.Values.{before, present, rateValues}
+use Rattle.sync_list.specs.Values.{before, present, rateValues, rateValuesBy}
 
 -- ---- two deviations
 
@@ -56,7 +56,7 @@ NearValue value.Absent = Unit {0}
 NearValue (value.Is x) = Near spread (x .0)
 
 held-difference : (odd even : Measured) → isInRange odd ≡ true → isInRange even ≡ true
-    → (difference held (valueOf odd) (valueOf even) ≡ difference whole (valueOf odd) (valueOf even)) × NearValue (difference whole (valueOf odd) (valueOf even))
+    → (differenceBy held (valueOf odd) (valueOf even) ≡ differenceBy whole (valueOf odd) (valueOf even)) × NearValue (differenceBy whole (valueOf odd) (valueOf even))
 held-difference Nothing even o e = (refl, tt)
 held-difference (Is x) Nothing o e = (refl, tt)
 held-difference (Is x) (Is y) o e =
@@ -82,15 +82,15 @@ row-ranged row e =
     record { on-a = h₃ .0; on-b = h₃ .1 }
 
 module _ (odd even : Row) (o : Ranged odd) (e : Ranged even) where
-  held-value : rateValue held (deviationsOf odd) (deviationsOf even) ≡ rateValue whole (deviationsOf odd) (deviationsOf even)
+  held-value : rateValueBy held (deviationsOf odd) (deviationsOf even) ≡ rateValue (deviationsOf odd) (deviationsOf even)
   held-value =
       let a = held-difference (odd .«on_a») (even .«on_a») (o .on-a) (e .on-a) .0 in
       let b = held-difference (odd .«on_b») (even .«on_b») (o .on-b) (e .on-b) .0 in
       λ i. joined (a i) (b i)
 
-  near-value : NearValue (rateValue whole (deviationsOf odd) (deviationsOf even))
+  near-value : NearValue (rateValue (deviationsOf odd) (deviationsOf even))
   near-value =
-      near-joined (difference whole (valueOf (odd .«on_a»)) (valueOf (even .«on_a»))) (difference whole (valueOf (odd .«on_b»)) (valueOf (even .«on_b»)))
+      near-joined (differenceBy whole (valueOf (odd .«on_a»)) (valueOf (even .«on_a»))) (differenceBy whole (valueOf (odd .«on_b»)) (valueOf (even .«on_b»)))
       (held-difference (odd .«on_a») (even .«on_a») (o .on-a) (e .on-a) .1)
       (held-difference (odd .«on_b») (even .«on_b») (o .on-b) (e .on-b) .1)
 
@@ -107,24 +107,24 @@ pub in-ranged : (rows : List Row) (id : Slot) → rowsSound rows ≡ true → Ra
 in-ranged rows id e = get-ranged rows (placeAmong (id .0) (idsOf rows)) (blank id) e (record { on-a = refl; on-b = refl })
 
 module _ (even : List Row) (e : rowsSound even ≡ true) where
-  pub rates-held : (odd : List Row) → rowsSound odd ≡ true → rateValues held odd even ≡ rateValues whole odd even
+  pub rates-held : (odd : List Row) → rowsSound odd ≡ true → rateValuesBy held odd even ≡ rateValues odd even
   unfolding rowsSound present
   rates-held [] o = refl
   rates-held (row ∷ rows) o =
       let h = both-true (rowSound row) (rowsSound rows) o in
       let same = held-value row (rowIn (row .id) even) (row-ranged row (h .0)) (in-ranged even (row .id) e) in
-      let rest : rateValues held rows even ≡ rateValues whole rows even = rates-held rows (h .1) in
+      let rest : rateValuesBy held rows even ≡ rateValues rows even = rates-held rows (h .1) in
       λ i. before (same i) (rest i)
 
   near-before : (v : Value) (numbers : List ℤ) → NearValue v → Within spread numbers → Within spread (before v numbers)
   near-before value.Absent numbers n w = w
   near-before (value.Is x) numbers n w = more n w
 
-  pub rates-near : (odd : List Row) → rowsSound odd ≡ true → Within spread (rateValues whole odd even)
+  pub rates-near : (odd : List Row) → rowsSound odd ≡ true → Within spread (rateValues odd even)
   unfolding rowsSound present
   rates-near [] o = none
   rates-near (row ∷ rows) o =
       let h = both-true (rowSound row) (rowsSound rows) o in
-      near-before (rateValue whole (deviationsOf row) (deviationsOf (rowIn (row .id) even))) (rateValues whole rows even)
+      near-before (rateValue (deviationsOf row) (deviationsOf (rowIn (row .id) even))) (rateValues rows even)
       (near-value row (rowIn (row .id) even) (row-ranged row (h .0)) (in-ranged even (row .id) e))
       (rates-near rows (h .1))

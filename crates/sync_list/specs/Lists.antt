@@ -6,6 +6,7 @@ use lib.Dec.{eqb, leb, ltb}
 use lib.ListN.{getD, replicate, set, take}
 use Rattle.checksum.specs.declared.Channel.{Channel}
 use Rattle.frame.specs.declared.header.Slot.{Slot}
+use Rattle.correction.specs.Terms.{mostIds}
 use Rattle.sync_list.specs.declared.row.Measurement.{Measurement}
 use Rattle.sync_list.specs.declared.row.Row.{Row}
 use Rattle.sync_list.specs.declared.list.SyncList.{SyncList}
@@ -13,9 +14,9 @@ use Rattle.sync_list.specs.Rows.{blank, on, isMeasured, withMeasured}
 
 -- ---- the rows
 
--- How many rows there is room for: the highest limit of different IDs.
+-- How many rows there is room for.
 abbrev pub rowCount : ℕ
-rowCount = 15
+rowCount = mostIds
 
 -- The rows that are listed: the first so many.
 abbrev pub listed : SyncList → List Row
@@ -70,7 +71,8 @@ isMeasuredOn id channel l = isMeasured (on channel (rowIn id (listed l)))
 abbrev pub isFullFor : ℕ → Slot → SyncList → Bool
 isFullFor limit id l = leb limit (l .count) && not (isAmong (id .0) (idsOf (listed l)))
 
--- The list with a measurement: in the row of its ID, or in a new row, which is the last. There are no rows but these.
+-- The list with a measurement: in the row of its ID, or in a new row, which is the last. Where all rows are listed, a new ID leaves the
+-- list as it is: below the limit there is room.
 abbrev pub recorded : Slot → Channel → Measurement → SyncList → SyncList
 recorded id channel m l =
     cond (leb rowCount (placeOf id l)) l

@@ -3,7 +3,8 @@ use mathlib.Core.List.{List, [], _∷_, map}
 use lib.IntN.{ℤ}
 use Rattle.correction.specs.declared.value.Value.{Value}
 use Rattle.correction.specs.declared.value.Value.the-variants.{Absent, Is}
-use Rattle.correction.specs.Values.{offsetValue, rateValue}
+use Rattle.correction.specs.Microtick.{whole}
+use Rattle.correction.specs.Values.{offsetValue, rateValueBy}
 use Rattle.sync_list.specs.declared.row.Row.{Row}
 use Rattle.sync_list.specs.Rows.{deviationsOf}
 use Rattle.sync_list.specs.Lists.{rowIn}
@@ -23,5 +24,8 @@ abbrev pub offsetValues : List Row → List ℤ
 offsetValues rows = present (map (λ (row : Row). offsetValue (deviationsOf row)) rows)
 
 -- The rate value of each ID that was measured in the odd cycle, by what was measured of it in the even one.
-abbrev pub rateValues : (ℤ → ℤ) → List Row → List Row → List ℤ
-rateValues hold odd even = present (map (λ (row : Row). rateValue hold (deviationsOf row) (deviationsOf (rowIn (row .id) even))) odd)
+abbrev pub rateValuesBy : (ℤ → ℤ) → List Row → List Row → List ℤ
+rateValuesBy hold odd even = present (map (λ (row : Row). rateValueBy hold (deviationsOf row) (deviationsOf (rowIn (row .id) even))) odd)
+
+abbrev pub rateValues : List Row → List Row → List ℤ
+rateValues = rateValuesBy whole

@@ -7,8 +7,8 @@ use crate::row::Row;
 use checksum::Channel;
 use frame::Slot;
 
-// How many rows there is room for: the highest limit of different IDs.
-pub const ROWS: usize = 15;
+// How many rows there is room for.
+pub const ROWS: usize = correction::MOST_IDS;
 
 pub struct SyncList {
     pub rows: [Row; ROWS],

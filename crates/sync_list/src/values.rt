@@ -5,7 +5,7 @@ ghost use lib.ListN.{take};
 ghost use Rattle.correction.specs.Microtick.{held};
 ghost use Rattle.correction.specs.Terms.{valuesIn};
 ghost use Rattle.sync_list.specs.Lists.{listed};
-ghost use Rattle.sync_list.specs.Values.{offsetValues, rateValues};
+ghost use Rattle.sync_list.specs.Values.{offsetValues, rateValues, rateValuesBy};
 use crate::list::SyncList;
 use crate::places;
 use crate::row::Row;
@@ -40,7 +40,7 @@ impl SyncList {
 
     // The rate value of each ID of this list, which is the odd one, that has one by the even list.
     pub fn rate_values(self, even: SyncList) -> Values
-        ensures { λ r. ⌜ valuesIn r ≡ rateValues held (listed self) (listed even) ⌝ }
+        ensures { λ r. ⌜ valuesIn r ≡ rateValuesBy held (listed self) (listed even) ⌝ }
     {
         let rows = self.rows;
         let listed = self.listed();

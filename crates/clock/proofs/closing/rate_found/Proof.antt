@@ -15,9 +15,9 @@ use Rattle.clock.specs.State.{isOdd, openCycle}
 use Rattle.clock.proofs.RangeLaws.{rate-is-whole}
 use Rattle.settings.specs.Sheet.{driftDamping, rateLimit}
 use Rattle.correction.specs.Microtick.{held}
-use Rattle.correction.specs.Terms.{rateTerm}
+use Rattle.correction.specs.Terms.{rateTermBy}
 use Rattle.sync_list.specs.Lists.{listed}
-use Rattle.sync_list.specs.Values.{rateValues}
+use Rattle.sync_list.specs.Values.{rateValuesBy}
 
 odd-is : (c : tie.After-is-odd) → isOdd (openCycle (c .before .before .before .before .before .before .args .clock)) ≡ c .is-odd .result
 odd-is c = sym (c .is-odd .ensures ∙ ap isOdd (c .before .open-cycle .ensures))
@@ -49,7 +49,7 @@ returns-2 c =
     let e = c .before .before .before .before in
     let values = c .before .before .before .rate-values in
     let term : c .rate-term .result
-    ≡ rateTerm held (rateValues held (listed (s .args .clock .odd)) (listed (s .args .clock .even))) (s .args .clock .settings .«sends_sync») (s .args .clock .rate .0)
+    ≡ rateTermBy held (rateValuesBy held (listed (s .args .clock .odd)) (listed (s .args .clock .even))) (s .args .clock .settings .«sends_sync») (s .args .clock .rate .0)
     (driftDamping (s .args .clock .settings)) (rateLimit (s .args .clock .settings)) =
     rw (values .ensures, c .before .before .drift-damping .ensures, c .before .rate-limit .ensures) at (c .rate-term .ensures) in
     rw (odd-is (e .before) ∙ not-false (e .before .is-odd .result) (e .if1 .left)) (term ∙ rate-is-whole (s .args .clock) (s .pre))

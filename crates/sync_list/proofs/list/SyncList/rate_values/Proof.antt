@@ -22,18 +22,18 @@ use mir.Facts.{toZ-ofZ}
 use Rattle.numbers.proofs.Walk.{rest, rest-end, came, length-of-mapped}
 use Rattle.correction.specs.declared.value.Value.{Value}
 use Rattle.correction.specs.Microtick.{held}
-use Rattle.correction.specs.Values.{rateValue}
+use Rattle.correction.specs.Values.{rateValueBy}
 use Rattle.correction.specs.Terms.{mostIds}
 use Rattle.sync_list.specs.declared.row.Row.{Row}
 use Rattle.sync_list.specs.Rows.{blank, deviationsOf}
 use Rattle.sync_list.specs.Lists.{rowCount, listed, placeOf, rowIn, idOf}
-use Rattle.sync_list.specs.Values.{rateValues}
+use Rattle.sync_list.specs.Values.{rateValuesBy}
 use Rattle.sync_list.proofs.ListLaws.{listed-few, listed-rows, ids-place, row-there, row-absent}
 use Rattle.sync_list.proofs.ValueLaws.{Gathered, gather-none, gather-one, gather-end}
 
 -- what a row adds, by the rows of the even cycle
 abbrev valueBy : List Row → Row → Value
-valueBy evens row = rateValue held (deviationsOf row) (deviationsOf (rowIn (row .id) evens))
+valueBy evens row = rateValueBy held (deviationsOf row) (deviationsOf (rowIn (row .id) evens))
 
 abbrev Inv-loop : tie.InvT-loop
 Inv-loop rows listed even-rows even-listed even-ids numbers₀ count₀ i₀ numbers count i =
@@ -211,8 +211,8 @@ returns c =
     let few-counted : l .count ≤ mostIds = omega arith in
     rw (le-leb (l .count) mostIds few-counted)
     (gather-end (valueBy evens) (l .numbers) (l .count) (take n (a .self .rows)) g
-    ∙ ap (λ (rows : List Row). rateValues held rows evens) (are-listed (k .before .before .before))
-    ∙ ap (rateValues held (listed (a .self))) (even-listed-are (k .before)))
+    ∙ ap (λ (rows : List Row). rateValuesBy held rows evens) (are-listed (k .before .before .before))
+    ∙ ap (rateValuesBy held (listed (a .self))) (even-listed-are (k .before)))
 
 pub rate-values-spec : {M : Type 1} → statement M
 rate-values-spec =

@@ -1,0 +1,89 @@
+-- What closing reports of a sound state, over the measurements that its lists stand for, in whatever order.
+use mathlib.Core.Path.{_≡_, refl, sym, ap, subst, _∙_}
+use mathlib.Core.Bool.{Bool, true, false, not, cond}
+use borrow.Author.Tests.{not-false}
+use mathlib.Core.List.{List}
+use lib.Dec.{lit<}
+use lib.IntN.{ℤ}
+use lib.ListN.{length}
+use Rattle.midpoint.specs.Order.{Permuted}
+use Rattle.midpoint.proofs.OrderLaws.{permuted-length, permuted-sym}
+use Rattle.refusal.specs.Refusal.{first}
+use Rattle.refusal.proofs.FirstLaws.{first-zero, if-accepted}
+use Rattle.settings.specs.Sheet.{syncIdLimit, offsetLimit, rateLimit, driftDamping}
+use Rattle.correction.specs.Terms.{offsetTerm, rateTerm}
+use Rattle.sync_list.specs.Lists.{listed}
+use Rattle.sync_list.specs.Values.{rateValues}
+use Rattle.measurements.specs.Measurements.{Taken, standsFor, differentIds}
+use Rattle.measurements.specs.Terms.{offsetValuesOf, rateValuesOf}
+use Rattle.measurements.proofs.OrderLaws.{ids-permuted, offset-permuted, rate-permuted}
+use Rattle.measurements.proofs.RowLaws.{rows-offset, rows-rate}
+use Rattle.clock.specs.declared.state.Clock.{Clock}
+use Rattle.clock.specs.State.{isOdd, openCycle, listOf}
+use Rattle.clock.specs.Sound.{sound}
+use Rattle.clock.specs.Closing as closing
+use Rattle.clock.specs.Closing.{closingRefusals, storedTerm, offsetFound, rateFound, reportWith, reportOf, noReport}
+use Rattle.clock.proofs.SoundLaws.{clauses, at-most, rows-good, ids-different}
+use Rattle.clock_claims.specs.Typed.{TypedList}
+use Rattle.clock_claims.specs.Reports.{ReportedOver}
+use Rattle.clock_claims.proofs.Recorded.{list-of-sound, list-of-typed}
+use Rattle.clock_claims.proofs.TakenLaws.{list-count}
+
+module _ (c : Clock) (good : sound c ≡ true) where
+  -- the count, and the offset, over the open cycle's list
+  pub count-over : TypedList (listOf (openCycle c) c) → (ms : List Taken) → Permuted (standsFor (listed (listOf (openCycle c) c))) ms
+      → listOf (openCycle c) c .count ≡ length (differentIds ms)
+  count-over typed ms p =
+      list-count (syncIdLimit (c .settings)) (listOf (openCycle c) c) typed (at-most (c .settings) (clauses c good .settings) 4 (lit< tt)) (list-of-sound c (openCycle c) good)
+      ∙ permuted-length (ids-permuted p)
+
+  pub offset-over : (ms : List Taken) → Permuted (standsFor (listed (listOf (openCycle c) c))) ms
+      → offsetFound c ≡ offsetTerm (offsetValuesOf ms) (c .settings .«sends_sync») (offsetLimit (c .settings))
+  offset-over ms p =
+      let l = listOf (openCycle c) c in
+      let limit = syncIdLimit (c .settings) in
+      let list-good = list-of-sound c (openCycle c) good in
+      ap (λ (v : List ℤ). offsetTerm v (c .settings .«sends_sync») (offsetLimit (c .settings)))
+      (sym (rows-offset (listed l) (rows-good limit l list-good) (ids-different limit l list-good)))
+      ∙ offset-permuted p (c .settings .«sends_sync») (offsetLimit (c .settings))
+
+  -- the rate, over both lists in an odd cycle
+  pub rate-over : (ms : List Taken) → Permuted (standsFor (listed (listOf (openCycle c) c))) ms
+      → (before : List Taken) → (isOdd (openCycle c) ≡ true → Permuted (standsFor (listed (c .even))) before)
+      → rateFound c
+      ≡ cond (isOdd (openCycle c))
+      (rateTerm (rateValuesOf ms before) (c .settings .«sends_sync») (c .rate .0) (driftDamping (c .settings)) (rateLimit (c .settings)))
+      (storedTerm (c .rate .0))
+  rate-over ms p before q = by (isOdd (openCycle c)) refl
+    where
+      by : (b : Bool) → isOdd (openCycle c) ≡ b
+          → cond b (rateTerm (rateValues (listed (c .odd)) (listed (c .even))) (c .settings .«sends_sync») (c .rate .0) (driftDamping (c .settings)) (rateLimit (c .settings)))
+          (storedTerm (c .rate .0))
+          ≡ cond b (rateTerm (rateValuesOf ms before) (c .settings .«sends_sync») (c .rate .0) (driftDamping (c .settings)) (rateLimit (c .settings)))
+          (storedTerm (c .rate .0))
+      by false t = refl
+      by true t =
+          let limit = syncIdLimit (c .settings) in
+          let even-good = clauses c good .even in
+          let odd-good = clauses c good .odd in
+          let odd : Permuted (standsFor (listed (c .odd))) ms = subst (λ (k : Bool). Permuted (standsFor (listed (cond k (c .odd) (c .even)))) ms) t p in
+          ap (λ (v : List ℤ). rateTerm v (c .settings .«sends_sync») (c .rate .0) (driftDamping (c .settings)) (rateLimit (c .settings)))
+          (sym
+          (rows-rate (listed (c .odd)) (listed (c .even)) (rows-good limit (c .odd) odd-good) (ids-different limit (c .odd) odd-good)
+          (ids-different limit (c .even) even-good)))
+          ∙ rate-permuted odd (q t) (c .settings .«sends_sync») (c .rate .0) (driftDamping (c .settings)) (rateLimit (c .settings))
+
+-- ---- the claim
+
+pub reported-over : ReportedOver
+reported-over c offsetControl rateControl r typed h e ms before p q =
+    let zero : first (closingRefusals c offsetControl rateControl) ≡ 0 = sym (ap (λ (t : closing.Told). t .number) (h .answers)) ∙ e in
+    let z23 = first-zero 22 (not (sound c)) _ zero in
+    let good : sound c ≡ true = not-false (sound c) (z23 .0) in
+    let list = permuted-sym p in
+    let count = count-over c good (list-of-typed c (openCycle c) (typed .even) (typed .odd)) ms list in
+    let offset = offset-over c good ms list in
+    let rate = rate-over c good ms list before (λ t. permuted-sym q) in
+    ap (λ (t : closing.Told). t .report) (h .answers)
+    ∙ if-accepted _ (reportOf c offsetControl rateControl) noReport zero
+    ∙ (λ i. reportWith (c .settings) (offset i) (rate i) (count i) offsetControl rateControl)

@@ -1,0 +1,20 @@
+use borrow.Author.Needs.{needs}
+use Rattle.clock_claims.proofs.closed.Statement.{statement}
+use Rattle.clock_claims.proofs.closed.Tie as tie
+use Rattle.clock_claims.proofs.closed.Reads as reads
+use Rattle.clock_claims.proofs.closed.Lts as lts
+use Rattle.clock.proofs.close_cycle.Reads as close-cycle-reads
+use Rattle.clock_claims.proofs.Witnesses.{closed-well}
+use mir.Facts.{toZ-ofZ}
+
+close-cycle-requires : tie.Need-close-cycle-requires
+close-cycle-requires c κs = search needs
+
+returns : tie.Need-returns
+returns c =
+    let s = c .before in
+    closed-well (s .args .state) (s .args .offset-control) (s .args .rate-control) (c .close-cycle .result)
+    (rw (toZ-ofZ (s .fits .offset-control), toZ-ofZ (s .fits .rate-control)) at (c .close-cycle .ensures))
+
+pub closed-spec : {M : Type 1} → statement M
+closed-spec = tie.close (tie.spec close-cycle-requires returns)

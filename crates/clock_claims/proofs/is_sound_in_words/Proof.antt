@@ -1,0 +1,29 @@
+use borrow.Author.Needs.{needs}
+use Rattle.clock_claims.proofs.is_sound_in_words.Statement.{statement}
+use Rattle.clock_claims.proofs.is_sound_in_words.Tie as tie
+use Rattle.clock_claims.proofs.is_sound_in_words.Reads as reads
+use Rattle.clock_claims.proofs.is_sound_in_words.Lts as lts
+use Rattle.clock.proofs.is_sound.Reads as is-sound-reads
+use Rattle.numbers.proofs.Walk.{length-of-mapped}
+use Rattle.slot_claims.specs.Sheet.{TypedSettings}
+use Rattle.clock_claims.specs.Typed.{TypedList, TypedClock}
+use mathlib.Core.Path.{sym, _∙_}
+use Rattle.clock_claims.proofs.Sound.{sound-exactly}
+
+typed : (c : tie.Start) → TypedClock (c .args .state)
+typed c =
+    let settings : TypedSettings (c .args .state .settings) = search needs in
+    let even : TypedList (c .args .state .even) = search (needs, length-of-mapped) in
+    let odd : TypedList (c .args .state .odd) = search (needs, length-of-mapped) in
+    record { settings = settings; even = even; odd = odd }
+
+is-sound-requires : tie.Need-is-sound-requires
+is-sound-requires c κs = search needs
+
+returns : tie.Need-returns
+returns c =
+    let exact = sound-exactly (c .before .args .state) (typed (c .before)) in
+    (λ e. exact .0 (sym (c .is-sound .ensures) ∙ e), λ s. c .is-sound .ensures ∙ exact .1 s)
+
+pub is-sound-in-words-spec : {M : Type 1} → statement M
+is-sound-in-words-spec = tie.close (tie.spec is-sound-requires returns)
