@@ -29,7 +29,7 @@ use Rattle.sync_list.specs.Lists.{listed}
 use Rattle.sync_list.specs.Values.{offsetValues, rateValues, rateValuesBy}
 use Rattle.sync_list.proofs.RangeLaws.{spread, rates-held, rates-near}
 use Rattle.clock.specs.declared.state.Clock.{Clock}
-use Rattle.clock.specs.State.{isOdd, openCycle, listOf}
+use Rattle.clock.specs.State.{isOdd, currentCycle, listOf}
 use Rattle.clock.specs.Sound.{sound}
 use Rattle.clock.specs.Measuring.{delayOn, deviationBy}
 use Rattle.clock.specs.Closing.{offsetFound, rateFound}
@@ -134,7 +134,7 @@ module _ (clock : Clock) (good : sound clock ≡ true) where
   pub found-near : Near (rateLimit (clock .settings)) (rateFound clock .value .0)
   found-near =
       let s = clock .settings in
-      cases (isOdd (openCycle clock))
+      cases (isOdd (currentCycle clock))
       (λ t. rw t
       (rate-near (rateValues (listed (clock .odd)) (listed (clock .even))) (s .«sends_sync») (clock .rate .0) (driftDamping s) (rateLimit s) stored-near))
       (λ t. rw t stored-near)
@@ -154,7 +154,7 @@ module _ (clock : Clock) (good : sound clock ≡ true) where
       let limit = at-most s (k .settings) 5 (lit< tt) in
       let unit = at-most s (k .settings) 8 (lit< tt) in
       external-held (offsetLimit s) (externalOffsetUnit s) (offsetFound clock .value .0) control
-      (offset-near (offsetValues (listed (listOf (openCycle clock) clock))) (s .«sends_sync») (offsetLimit s)) (omega arith)
+      (offset-near (offsetValues (listed (listOf (currentCycle clock) clock))) (s .«sends_sync») (offsetLimit s)) (omega arith)
 
   pub rate-reported : (control : Control)
       → held (withExternal (rateFound clock .value .0) (signOf control) (externalRateUnit (clock .settings)))

@@ -19,7 +19,7 @@ use Rattle.clock.specs.declared.closing.Report.{Report}
 use Rattle.clock.specs.declared.closing.Closing.{Closing}
 use Rattle.clock.specs.declared.closing.Closing.the-variants as closing
 use Rattle.clock.specs.declared.closing.CycleClosed.{CycleClosed}
-use Rattle.clock.specs.State.{isThere, isOdd, openCycle, listOf}
+use Rattle.clock.specs.State.{isThere, isOdd, currentCycle, listOf}
 use Rattle.clock.specs.Sound.{sound}
 
 -- "Close cycle: 23, 18, 21."
@@ -35,7 +35,7 @@ closingRefusals clock offsetControl rateControl =
 -- "Offset, every cycle", over the open cycle's list.
 abbrev pub offsetFound : Clock → Term
 offsetFound clock =
-    offsetTerm (offsetValues (listed (listOf (openCycle clock) clock))) (clock .settings .«sends_sync») (offsetLimit (clock .settings))
+    offsetTerm (offsetValues (listed (listOf (currentCycle clock) clock))) (clock .settings .«sends_sync») (offsetLimit (clock .settings))
 
 -- "Even cycles report the stored rate", with both flags clear.
 abbrev pub storedTerm : ℤ → Term
@@ -44,7 +44,7 @@ storedTerm rate = record { value = record { 0 = rate }; «is_missing» = false; 
 -- "Rate, odd cycles", over both lists.
 abbrev pub rateFound : Clock → Term
 rateFound clock =
-    cond (isOdd (openCycle clock))
+    cond (isOdd (currentCycle clock))
     (rateTerm (rateValues (listed (clock .odd)) (listed (clock .even))) (clock .settings .«sends_sync») (clock .rate .0)
     (driftDamping (clock .settings))
     (rateLimit (clock .settings)))
@@ -68,7 +68,7 @@ reportWith settings offset rate ids offsetControl rateControl =
 
 -- A sound list counts a row for each different ID.
 abbrev pub reportOf : Clock → ℤ → ℤ → Report
-reportOf clock = reportWith (clock .settings) (offsetFound clock) (rateFound clock) (listOf (openCycle clock) clock .count)
+reportOf clock = reportWith (clock .settings) (offsetFound clock) (rateFound clock) (listOf (currentCycle clock) clock .count)
 
 -- "no cycle is open after it", with the rate that is stored.
 abbrev pub closedWith : Clock → SignedMicrotick → Clock
@@ -78,7 +78,7 @@ closedWith clock rate =
       even = clock .even;
       odd = clock .odd;
       opened = NoCycle;
-      «last_closed» = Is (openCycle clock);
+      «last_closed» = Is (currentCycle clock);
       rate = rate;
     }
 

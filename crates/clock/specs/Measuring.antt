@@ -25,7 +25,7 @@ use Rattle.clock.specs.declared.state.Clock.{Clock}
 use Rattle.clock.specs.declared.measuring.Measuring.{Measuring}
 use Rattle.clock.specs.declared.measuring.Measuring.the-variants as measuring
 use Rattle.clock.specs.declared.measuring.FrameMeasured.{FrameMeasured}
-use Rattle.clock.specs.State.{isThere, openCycle, listOf, withList}
+use Rattle.clock.specs.State.{isThere, currentCycle, listOf, withList}
 use Rattle.clock.specs.Sound.{sound}
 
 -- ---- the frame
@@ -39,22 +39,22 @@ headerIn (Frame h) = h
 abbrev pub frameOf : Status → Header
 frameOf status = headerIn (status .kept)
 
--- 20: "slot status has no valid frame, or its frame isn't a sync frame, or its slot isn't static". Static is read by the status's
--- settings, and only that.
+-- 20: "slot status has no valid frame, or its frame isn't a sync frame, or its slot isn't static". A sound status keeps a frame exactly
+-- with "valid". Static is read by the status's settings, and only that.
 abbrev pub noSyncFrame : Status → Bool
 noSyncFrame status = not (isFrame (status .kept)) || (not (frameOf status .sync) || not (isStatic (placeOf status)))
 
 -- 22: "frame's cycle is not the open cycle".
 abbrev pub otherCycle : Clock → Status → Bool
-otherCycle clock status = not (eqb (frameOf status .cycle .0) (openCycle clock .0))
+otherCycle clock status = not (eqb (frameOf status .cycle .0) (currentCycle clock .0))
 
 -- 16: "same ID and channel already measured in this cycle".
 abbrev pub measuredAlready : Clock → Status → Bool
-measuredAlready clock status = isMeasuredOn (frameOf status .id) (status .channel) (listOf (openCycle clock) clock)
+measuredAlready clock status = isMeasuredOn (frameOf status .id) (status .channel) (listOf (currentCycle clock) clock)
 
 -- 15: "sync list holds its limit of different IDs and this ID isn't among them". The limit is the clock's.
 abbrev pub listFull : Clock → Status → Bool
-listFull clock status = isFullFor (syncIdLimit (clock .settings)) (frameOf status .id) (listOf (openCycle clock) clock)
+listFull clock status = isFullFor (syncIdLimit (clock .settings)) (frameOf status .id) (listOf (currentCycle clock) clock)
 
 -- ---- the deviation
 
@@ -101,8 +101,8 @@ told measuring.ListFull = record { number = 15; deviation = pos 0 }
 -- The clock with the measurement in the open cycle's list.
 abbrev pub measuredOn : Clock → Status → ℤ → Clock
 measuredOn clock status d =
-    withList (openCycle clock)
-    (recorded (frameOf status .id) (status .channel) (record { deviation = record { 0 = d } }) (listOf (openCycle clock) clock))
+    withList (currentCycle clock)
+    (recorded (frameOf status .id) (status .channel) (record { deviation = record { 0 = d } }) (listOf (currentCycle clock) clock))
     clock
 
 -- The answer's number is the refusal, and its deviation 01's. The clock state has the measurement, or, with a refusal, is the one

@@ -44,8 +44,8 @@ abbrev pub noClock : Clock
 noClock = fresh noSettings
 
 -- The open cycle; 0 where none is open.
-abbrev pub openCycle : Clock → Cycle
-openCycle clock = cycleIn (clock .opened)
+abbrev pub currentCycle : Clock → Cycle
+currentCycle clock = cycleIn (clock .opened)
 
 -- The list of a cycle's measurements.
 abbrev pub listOf : Cycle → Clock → SyncList

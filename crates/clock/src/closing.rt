@@ -115,7 +115,7 @@ fn offset_found(clock: Clock) -> Term
     ensures { λ r. ⌜ r ≡ offsetFound clock ⌝ }
 {
     let settings = clock.settings;
-    let list = clock.list_of(clock.open_cycle());
+    let list = clock.list_of(clock.current_cycle());
     let values = list.offset_values();
     correction::offset_term(values, settings.sends_sync, settings.offset_limit())
 }
@@ -129,7 +129,7 @@ fn rate_found(clock: Clock) -> Term
     let even = clock.even;
     let odd = clock.odd;
     let stored = clock.rate;
-    if !state::is_odd(clock.open_cycle()) {
+    if !state::is_odd(clock.current_cycle()) {
         return Term {
             value: stored,
             is_missing: false,
@@ -152,7 +152,7 @@ fn report_of(clock: Clock, rate: Term, offset_control: Control, rate_control: Co
     ensures { λ r. ⌜ r ≡ reportOf clock (signOf «offset_control») (signOf «rate_control») ⌝ }
 {
     let settings = clock.settings;
-    let list = clock.list_of(clock.open_cycle());
+    let list = clock.list_of(clock.current_cycle());
     let offset = offset_found(clock);
     let offset_value = offset.value;
     let rate_value = rate.value;
@@ -184,7 +184,7 @@ fn closed_with(clock: Clock, rate: SignedMicrotick) -> Clock
     let settings = clock.settings;
     let even = clock.even;
     let odd = clock.odd;
-    let closed = clock.open_cycle();
+    let closed = clock.current_cycle();
     Clock {
         settings,
         even,

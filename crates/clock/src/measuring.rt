@@ -87,10 +87,12 @@ pub fn measure(
     if no_sync_frame(status) {
         return refused(Measuring::NoSyncFrame, clock);
     }
-    if other_cycle(clock, status) {
+    let is_other = other_cycle(clock, status);
+    let is_measured = measured_already(clock, status);
+    if is_other {
         return refused(Measuring::OtherCycle, clock);
     }
-    if measured_already(clock, status) {
+    if is_measured {
         return refused(Measuring::MeasuredAlready, clock);
     }
     if list_full(clock, status) {
@@ -143,7 +145,7 @@ fn other_cycle(clock: Clock, status: Status) -> bool
     ensures { λ r. ⌜ r ≡ otherCycle clock status ⌝ }
 {
     let frame = frame_of(status);
-    let cycle = clock.open_cycle();
+    let cycle = clock.current_cycle();
     frame.cycle.0 != cycle.0
 }
 
@@ -153,7 +155,7 @@ fn measured_already(clock: Clock, status: Status) -> bool
 {
     let frame = frame_of(status);
     let channel = status.channel;
-    let list = clock.list_of(clock.open_cycle());
+    let list = clock.list_of(clock.current_cycle());
     list.has(frame.id, channel)
 }
 
@@ -163,7 +165,7 @@ fn list_full(clock: Clock, status: Status) -> bool
 {
     let frame = frame_of(status);
     let settings = clock.settings;
-    let list = clock.list_of(clock.open_cycle());
+    let list = clock.list_of(clock.current_cycle());
     list.is_full_for(settings.sync_id_limit(), frame.id)
 }
 
@@ -202,7 +204,7 @@ fn measured_on(clock: Clock, status: Status, deviation: SignedMicrotick) -> Cloc
 {
     let frame = frame_of(status);
     let channel = status.channel;
-    let cycle = clock.open_cycle();
+    let cycle = clock.current_cycle();
     let list = clock.list_of(cycle);
     let next = list.with(frame.id, channel, Measurement { deviation });
     clock.with_list(cycle, next)

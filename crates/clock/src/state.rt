@@ -1,6 +1,6 @@
 // What a clock knows: its settings, the measurements in use, and where in the cycles it is.
 ghost use mathlib.Core.Path.{_≡_};
-ghost use Rattle.clock.specs.State.{isThere, cycleIn, isCycle, isOdd, fresh as State·fresh, noClock, openCycle, listOf, withList};
+ghost use Rattle.clock.specs.State.{isThere, cycleIn, isCycle, isOdd, fresh as State·fresh, noClock, currentCycle, listOf, withList};
 use correction::SignedMicrotick;
 use frame::Cycle;
 use settings::Settings;
@@ -44,7 +44,7 @@ impl CycleOrNone {
     }
 
     // Whether it is the cycle with this number.
-    pub fn is_cycle(self, number: u8) -> bool
+    pub(crate) fn is_cycle(self, number: u8) -> bool
         ensures { λ r. ⌜ r ≡ isCycle number self ⌝ }
     {
         let CycleOrNone::Is(cycle) = self else {
@@ -55,7 +55,7 @@ impl CycleOrNone {
 }
 
 // Whether a cycle is odd. Any other is even.
-pub fn is_odd(cycle: Cycle) -> bool
+pub(crate) fn is_odd(cycle: Cycle) -> bool
     ensures { λ r. ⌜ r ≡ isOdd cycle ⌝ }
 {
     cycle.0 % 2 == 1
@@ -63,7 +63,7 @@ pub fn is_odd(cycle: Cycle) -> bool
 
 impl Clock {
     // The state of a clock that is loaded: nothing measured, no cycle open, none closed, stored rate 0.
-    pub fn fresh(settings: Settings) -> Clock
+    pub(crate) fn fresh(settings: Settings) -> Clock
         ensures { λ r. ⌜ r ≡ State·fresh settings ⌝ }
     {
         Clock {
@@ -84,15 +84,15 @@ impl Clock {
     }
 
     // The open cycle; 0 where none is open.
-    pub fn open_cycle(self) -> Cycle
-        ensures { λ r. ⌜ r ≡ openCycle self ⌝ }
+    pub(crate) fn current_cycle(self) -> Cycle
+        ensures { λ r. ⌜ r ≡ currentCycle self ⌝ }
     {
         let opened = self.opened;
         opened.cycle()
     }
 
     // The list that takes the measurements of a cycle.
-    pub fn list_of(self, cycle: Cycle) -> SyncList
+    pub(crate) fn list_of(self, cycle: Cycle) -> SyncList
         ensures { λ r. ⌜ r ≡ listOf cycle self ⌝ }
     {
         let even = self.even;
@@ -104,7 +104,7 @@ impl Clock {
     }
 
     // The state with another list of a cycle's measurements.
-    pub fn with_list(self, cycle: Cycle, list: SyncList) -> Clock
+    pub(crate) fn with_list(self, cycle: Cycle, list: SyncList) -> Clock
         ensures { λ r. ⌜ r ≡ withList cycle list self ⌝ }
     {
         let mut next = self;

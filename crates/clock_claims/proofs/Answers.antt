@@ -26,7 +26,7 @@ use Rattle.clock_claims.specs.Answers.{LoadOne, OpenOne, MeasureOne, Clo
 
 -- ---- one result: a number names one case, so answers that say the same in 01's numbers are one answer
 
-loadingBy : load.Told → Loading
+unfoldable pub loadingBy : load.Told → Loading
 loadingBy t = cond (eqb (t .number) 0) loading.Loaded (loading.SettingOutOfRange (t .field))
 
 loading-by : (r : Loading) → loadingBy (load.told r) ≡ r
@@ -39,7 +39,7 @@ load-one settings r s hr hs =
     ap₂ (λ (a : Loading) (c : Clock). record { answer = a; clock = c })
     (sym (loading-by (r .answer)) ∙ ap loadingBy (hr .answers ∙ sym (hs .answers)) ∙ loading-by (s .answer)) (hr .leaves ∙ sym (hs .leaves))
 
-openingBy : ℕ → CycleOpening
+unfoldable pub openingBy : ℕ → CycleOpening
 openingBy n = cond (eqb n 0) opening.Opened (cond (eqb n 23) opening.NotSound (cond (eqb n 11) opening.CycleTooHigh opening.OpenAlready))
 
 opening-by : (r : CycleOpening) → openingBy (openRule.told r) ≡ r
@@ -54,7 +54,7 @@ open-one clock cycle r s hr hs =
     ap₂ (λ (a : CycleOpening) (c : Clock). record { answer = a; clock = c })
     (sym (opening-by (r .answer)) ∙ ap openingBy (hr .answers ∙ sym (hs .answers)) ∙ opening-by (s .answer)) (hr .leaves ∙ sym (hs .leaves))
 
-measuringBy : measure.Told → Measuring
+unfoldable pub measuringBy : measure.Told → Measuring
 measuringBy t =
     cond (eqb (t .number) 0) (measuring.Taken (record { 0 = t .deviation }))
     (cond (eqb (t .number) 23) measuring.NotSound
@@ -79,7 +79,7 @@ measure-one clock status observed actionPoint r s hr hs =
     ap₂ (λ (a : Measuring) (c : Clock). record { answer = a; clock = c })
     (sym (measuring-by (r .answer)) ∙ ap measuringBy (hr .answers ∙ sym (hs .answers)) ∙ measuring-by (s .answer)) (hr .leaves ∙ sym (hs .leaves))
 
-closingBy : close.Told → Closing
+unfoldable pub closingBy : close.Told → Closing
 closingBy t =
     cond (eqb (t .number) 0) (closing.Closed (t .report))
     (cond (eqb (t .number) 23) closing.NotSound (cond (eqb (t .number) 18) closing.NoCycleOpen closing.NotAControl))

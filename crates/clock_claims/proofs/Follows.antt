@@ -34,7 +34,7 @@ use Rattle.measurements.proofs.AddingLaws.{recorded-permuted}
 use Rattle.clock.specs.declared.state.CycleOrNone.{CycleOrNone}
 use Rattle.clock.specs.declared.state.CycleOrNone.the-variants.{NoCycle, Is}
 use Rattle.clock.specs.declared.state.Clock.{Clock}
-use Rattle.clock.specs.State.{isThere, cycleIn, isCycle, isOdd, fresh, openCycle, listOf}
+use Rattle.clock.specs.State.{isThere, cycleIn, isCycle, isOdd, fresh, currentCycle, listOf}
 use Rattle.clock.specs.Sound.{sound}
 use Rattle.clock.specs.Opening.{openingRefusals, keepsEven, evenAfter, openedOn}
 use Rattle.clock.specs.Measuring.{frameOf, delayOn, noSyncFrame, otherCycle, measuredAlready, listFull, deviationBy, measuredOn}
@@ -188,7 +188,7 @@ module _ (s : Since) (c : Clock) (f : Follows s c) (cycle : Cycle) where
 -- ---- while a cycle is open
 
 module _ (s : Since) (c : Clock) (f : Follows s c) where
-  now-is : openCycle c ≡ current s
+  now-is : currentCycle c ≡ current s
   now-is = ap cycleIn (f .holds .opened)
 
   settings-is : c .settings ≡ s .settings
@@ -201,21 +201,21 @@ module _ (s : Since) (c : Clock) (f : Follows s c) where
     of-open : Every (OfOpen (current s .0)) (s .inUse)
     of-open = steady-open (s .opened) (s .lastClosed) (s .inUse) (f .steady) there
 
-    odd-is : isOdd (openCycle c) ≡ isOddNumber (current s .0)
+    odd-is : isOdd (currentCycle c) ≡ isOddNumber (current s .0)
     odd-is = ap isOdd now-is ∙ odd-not-even (current s .0)
 
     -- the open cycle's list holds the measurements of the open cycle
-    pub list-holds : Permuted (standsFor (listed (listOf (openCycle c) c))) (ofCurrent s)
+    pub list-holds : Permuted (standsFor (listed (listOf (currentCycle c) c))) (ofCurrent s)
     list-holds =
         cases (isEven (current s .0))
         (λ t.
-        subst (Permuted (standsFor (listed (listOf (openCycle c) c))))
+        subst (Permuted (standsFor (listed (listOf (currentCycle c) c))))
         (sym
         (cycles-same (λ (n : ℕ). eqb n (current s .0)) isEven (s .inUse)
         (every (λ m h. h .0 ∙ ap (λ (b : Bool). cond b (isEven (m .cycle)) (not (isEven (m .cycle)))) t) (s .inUse) of-open)))
         (subst (λ (b : Bool). Permuted (standsFor (listed (cond b (c .odd) (c .even)))) (ofCycles isEven (s .inUse))) (sym (odd-is ∙ ap not t)) (f .holds .even)))
         (λ t.
-        subst (Permuted (standsFor (listed (listOf (openCycle c) c))))
+        subst (Permuted (standsFor (listed (listOf (currentCycle c) c))))
         (sym
         (cycles-same (λ (n : ℕ). eqb n (current s .0)) isOddNumber (s .inUse)
         (every (λ m h. h .0 ∙ ap (λ (b : Bool). cond b (isEven (m .cycle)) (not (isEven (m .cycle)))) t) (s .inUse) of-open)))
@@ -227,13 +227,13 @@ module _ (s : Since) (c : Clock) (f : Follows s c) where
         subst (Permuted (standsFor (listed (c .even))))
         (sym (cycles-same (λ (n : ℕ). eqb n (current s .0 - 1)) isEven (s .inUse) (every (λ m h. h .1 odd) (s .inUse) of-open))) (f .holds .even)
 
-    list-good : listSound (syncIdLimit (c .settings)) (listOf (openCycle c) c) ≡ true
-    list-good = list-of-sound c (openCycle c) (f .holds .good)
+    list-good : listSound (syncIdLimit (c .settings)) (listOf (currentCycle c) c) ≡ true
+    list-good = list-of-sound c (currentCycle c) (f .holds .good)
 
-    list-typed : TypedList (listOf (openCycle c) c)
-    list-typed = list-of-typed c (openCycle c) (f .even-typed) (f .odd-typed)
+    list-typed : TypedList (listOf (currentCycle c) c)
+    list-typed = list-of-typed c (currentCycle c) (f .even-typed) (f .odd-typed)
 
-    pub count-is : listOf (openCycle c) c .count ≡ length (differentIds (ofCurrent s))
+    pub count-is : listOf (currentCycle c) c .count ≡ length (differentIds (ofCurrent s))
     count-is = count-over c (f .holds .good) (list-typed) (ofCurrent s) list-holds
 
 -- ---- measuring
@@ -251,7 +251,7 @@ module _ (s : Since) (c : Clock) (f : Follows s c) (status : Status) (observed a
   number-open there =
       let id = frameOf status .id in
       let limit = syncIdLimit (c .settings) in
-      let l = listOf (openCycle c) c in
+      let l = listOf (currentCycle c) c in
       let typed = list-typed s c f there in
       let good = list-good s c f there in
       let small = limit-small s c f in
@@ -319,9 +319,9 @@ module _ (s : Since) (c : Clock) (f : Follows s c) (status : Status) (observed a
         (z .0, first-zero 14 (listFull c status) _ (z .1) .0)
 
     -- the list has the measurement, and what it had
-    one-more : Permuted (standsFor (listed (recorded (frameOf status .id) (status .channel) m (listOf (openCycle c) c)))) (new .taken ∷ standsFor (listed (listOf (openCycle c) c)))
+    one-more : Permuted (standsFor (listed (recorded (frameOf status .id) (status .channel) m (listOf (currentCycle c) c)))) (new .taken ∷ standsFor (listed (listOf (currentCycle c) c)))
     one-more =
-        let l = listOf (openCycle c) c in
+        let l = listOf (currentCycle c) c in
         let typed = list-typed s c f there in
         let good = list-good s c f there in
         let small = limit-small s c f in
@@ -333,7 +333,7 @@ module _ (s : Since) (c : Clock) (f : Follows s c) (status : Status) (observed a
     even-measured =
         cases (isEven (current s .0))
         (λ t.
-        let b : isOdd (openCycle c) ≡ false = odd-is s c f there ∙ ap not t in
+        let b : isOdd (currentCycle c) ≡ false = odd-is s c f there ∙ ap not t in
         let rec = recorded (frameOf status .id) (status .channel) m in
         subst (Permuted (standsFor (listed (measuredOn c status (deviationBy c status observed actionPoint) .even)))) (sym (cycles-more isEven new (s .inUse) t))
         (subst (λ (k : Bool). Permuted (standsFor (listed (cond k (c .even) (rec (cond k (c .odd) (c .even)))))) (new .taken ∷ ofCycles isEven (s .inUse))) (sym b)
@@ -341,7 +341,7 @@ module _ (s : Since) (c : Clock) (f : Follows s c) (status : Status) (observed a
         (subst (λ (k : Bool). Permuted (standsFor (listed (rec (cond k (c .odd) (c .even))))) (new .taken ∷ standsFor (listed (cond k (c .odd) (c .even))))) b one-more)
         (List·Permᴰ·cons refl (f .holds .even)))))
         (λ t.
-        let b : isOdd (openCycle c) ≡ true = odd-is s c f there ∙ ap not t in
+        let b : isOdd (currentCycle c) ≡ true = odd-is s c f there ∙ ap not t in
         let rec = recorded (frameOf status .id) (status .channel) m in
         subst (Permuted (standsFor (listed (measuredOn c status (deviationBy c status observed actionPoint) .even)))) (sym (cycles-other isEven new (s .inUse) t))
         (subst (λ (k : Bool). Permuted (standsFor (listed (cond k (c .even) (rec (cond k (c .odd) (c .even)))))) (ofCycles isEven (s .inUse))) (sym b) (f .holds .even)))
@@ -350,12 +350,12 @@ module _ (s : Since) (c : Clock) (f : Follows s c) (status : Status) (observed a
     odd-measured =
         cases (isEven (current s .0))
         (λ t.
-        let b : isOdd (openCycle c) ≡ false = odd-is s c f there ∙ ap not t in
+        let b : isOdd (currentCycle c) ≡ false = odd-is s c f there ∙ ap not t in
         let rec = recorded (frameOf status .id) (status .channel) m in
         subst (Permuted (standsFor (listed (measuredOn c status (deviationBy c status observed actionPoint) .odd)))) (sym (cycles-other isOddNumber new (s .inUse) (ap not t)))
         (subst (λ (k : Bool). Permuted (standsFor (listed (cond k (rec (cond k (c .odd) (c .even))) (c .odd)))) (ofCycles isOddNumber (s .inUse))) (sym b) (f .holds .odd)))
         (λ t.
-        let b : isOdd (openCycle c) ≡ true = odd-is s c f there ∙ ap not t in
+        let b : isOdd (currentCycle c) ≡ true = odd-is s c f there ∙ ap not t in
         let rec = recorded (frameOf status .id) (status .channel) m in
         subst (Permuted (standsFor (listed (measuredOn c status (deviationBy c status observed actionPoint) .odd)))) (sym (cycles-more isOddNumber new (s .inUse) (ap not t)))
         (subst (λ (k : Bool). Permuted (standsFor (listed (cond k (rec (cond k (c .odd) (c .even))) (c .odd)))) (new .taken ∷ ofCycles isOddNumber (s .inUse))) (sym b)
@@ -365,8 +365,8 @@ module _ (s : Since) (c : Clock) (f : Follows s c) (status : Status) (observed a
 
     pub follows-measure : Follows (afterMeasuring s status (deviationBy c status observed actionPoint)) (measuredOn c status (deviationBy c status observed actionPoint))
     follows-measure =
-        let rec = recorded (frameOf status .id) (status .channel) m (listOf (openCycle c) c) in
-        let typed : TypedList rec = recorded-typed (frameOf status .id) (status .channel) m (listOf (openCycle c) c) (list-typed s c f there) in
+        let rec = recorded (frameOf status .id) (status .channel) m (listOf (currentCycle c) c) in
+        let typed : TypedList rec = recorded-typed (frameOf status .id) (status .channel) m (listOf (currentCycle c) c) (list-typed s c f there) in
         record {
           holds =
               record {
@@ -379,11 +379,11 @@ module _ (s : Since) (c : Clock) (f : Follows s c) (status : Status) (observed a
                 odd = odd-measured;
               };
           even-typed =
-              cases (isOdd (openCycle c))
+              cases (isOdd (currentCycle c))
               (λ t. ap (λ (b : Bool). length (cond b (c .even) rec .rows)) t ∙ f .even-typed)
               (λ t. ap (λ (b : Bool). length (cond b (c .even) rec .rows)) t ∙ typed);
           odd-typed =
-              cases (isOdd (openCycle c))
+              cases (isOdd (currentCycle c))
               (λ t. ap (λ (b : Bool). length (cond b rec (c .odd) .rows)) t ∙ typed)
               (λ t. ap (λ (b : Bool). length (cond b rec (c .odd) .rows)) t ∙ f .odd-typed);
           steady = open-steady (s .opened) (s .lastClosed) (new ∷ s .inUse) there (own-open (current s .0) new refl, of-open s c f there);
@@ -399,7 +399,7 @@ module _ (s : Since) (c : Clock) (f : Follows s c) where
 
   module _ (there : isThere (s .opened) ≡ true) where
     -- only an odd cycle looks at the one before it
-    before-permuted : isOdd (openCycle c) ≡ true → Permuted (standsFor (listed (c .even))) (ofCycle (current s .0 - 1) (s .inUse))
+    before-permuted : isOdd (currentCycle c) ≡ true → Permuted (standsFor (listed (c .even))) (ofCycle (current s .0 - 1) (s .inUse))
     before-permuted t = before-holds s c f there (not-true (isEven (current s .0)) (sym (odd-is s c f there) ∙ t))
 
     offset-is : offsetFound c ≡ offsetIn s

@@ -10,4 +10,5 @@ pub mod Reports
 pub mod InUse
 pub mod Follows
 pub mod Histories
+pub mod Possible
 pub mod Witnesses

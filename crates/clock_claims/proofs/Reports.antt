@@ -19,7 +19,7 @@ use Rattle.measurements.specs.Terms.{offsetValuesOf, rateValuesOf}
 use Rattle.measurements.proofs.OrderLaws.{ids-permuted, offset-permuted, rate-permuted}
 use Rattle.measurements.proofs.RowLaws.{rows-offset, rows-rate}
 use Rattle.clock.specs.declared.state.Clock.{Clock}
-use Rattle.clock.specs.State.{isOdd, openCycle, listOf}
+use Rattle.clock.specs.State.{isOdd, currentCycle, listOf}
 use Rattle.clock.specs.Sound.{sound}
 use Rattle.clock.specs.Closing as closing
 use Rattle.clock.specs.Closing.{closingRefusals, storedTerm, offsetFound, rateFound, reportWith, reportOf, noReport}
@@ -31,32 +31,32 @@ use Rattle.clock_claims.proofs.TakenLaws.{list-count}
 
 module _ (c : Clock) (good : sound c ≡ true) where
   -- the count, and the offset, over the open cycle's list
-  pub count-over : TypedList (listOf (openCycle c) c) → (ms : List Taken) → Permuted (standsFor (listed (listOf (openCycle c) c))) ms
-      → listOf (openCycle c) c .count ≡ length (differentIds ms)
+  pub count-over : TypedList (listOf (currentCycle c) c) → (ms : List Taken) → Permuted (standsFor (listed (listOf (currentCycle c) c))) ms
+      → listOf (currentCycle c) c .count ≡ length (differentIds ms)
   count-over typed ms p =
-      list-count (syncIdLimit (c .settings)) (listOf (openCycle c) c) typed (at-most (c .settings) (clauses c good .settings) 4 (lit< tt)) (list-of-sound c (openCycle c) good)
+      list-count (syncIdLimit (c .settings)) (listOf (currentCycle c) c) typed (at-most (c .settings) (clauses c good .settings) 4 (lit< tt)) (list-of-sound c (currentCycle c) good)
       ∙ permuted-length (ids-permuted p)
 
-  pub offset-over : (ms : List Taken) → Permuted (standsFor (listed (listOf (openCycle c) c))) ms
+  pub offset-over : (ms : List Taken) → Permuted (standsFor (listed (listOf (currentCycle c) c))) ms
       → offsetFound c ≡ offsetTerm (offsetValuesOf ms) (c .settings .«sends_sync») (offsetLimit (c .settings))
   offset-over ms p =
-      let l = listOf (openCycle c) c in
+      let l = listOf (currentCycle c) c in
       let limit = syncIdLimit (c .settings) in
-      let list-good = list-of-sound c (openCycle c) good in
+      let list-good = list-of-sound c (currentCycle c) good in
       ap (λ (v : List ℤ). offsetTerm v (c .settings .«sends_sync») (offsetLimit (c .settings)))
       (sym (rows-offset (listed l) (rows-good limit l list-good) (ids-different limit l list-good)))
       ∙ offset-permuted p (c .settings .«sends_sync») (offsetLimit (c .settings))
 
   -- the rate, over both lists in an odd cycle
-  pub rate-over : (ms : List Taken) → Permuted (standsFor (listed (listOf (openCycle c) c))) ms
-      → (before : List Taken) → (isOdd (openCycle c) ≡ true → Permuted (standsFor (listed (c .even))) before)
+  pub rate-over : (ms : List Taken) → Permuted (standsFor (listed (listOf (currentCycle c) c))) ms
+      → (before : List Taken) → (isOdd (currentCycle c) ≡ true → Permuted (standsFor (listed (c .even))) before)
       → rateFound c
-      ≡ cond (isOdd (openCycle c))
+      ≡ cond (isOdd (currentCycle c))
       (rateTerm (rateValuesOf ms before) (c .settings .«sends_sync») (c .rate .0) (driftDamping (c .settings)) (rateLimit (c .settings)))
       (storedTerm (c .rate .0))
-  rate-over ms p before q = by (isOdd (openCycle c)) refl
+  rate-over ms p before q = by (isOdd (currentCycle c)) refl
     where
-      by : (b : Bool) → isOdd (openCycle c) ≡ b
+      by : (b : Bool) → isOdd (currentCycle c) ≡ b
           → cond b (rateTerm (rateValues (listed (c .odd)) (listed (c .even))) (c .settings .«sends_sync») (c .rate .0) (driftDamping (c .settings)) (rateLimit (c .settings)))
           (storedTerm (c .rate .0))
           ≡ cond b (rateTerm (rateValuesOf ms before) (c .settings .«sends_sync») (c .rate .0) (driftDamping (c .settings)) (rateLimit (c .settings)))
@@ -81,7 +81,7 @@ reported-over c offsetControl rateControl r typed h e ms before p q =
     let z23 = first-zero 22 (not (sound c)) _ zero in
     let good : sound c ≡ true = not-false (sound c) (z23 .0) in
     let list = permuted-sym p in
-    let count = count-over c good (list-of-typed c (openCycle c) (typed .even) (typed .odd)) ms list in
+    let count = count-over c good (list-of-typed c (currentCycle c) (typed .even) (typed .odd)) ms list in
     let offset = offset-over c good ms list in
     let rate = rate-over c good ms list before (λ t. permuted-sym q) in
     ap (λ (t : closing.Told). t .report) (h .answers)

@@ -25,7 +25,7 @@ use Rattle.sync_list.specs.Sound.{rowsSound, listSound}
 use Rattle.clock.specs.declared.state.Clock.{Clock}
 use Rattle.clock.specs.declared.state.CycleOrNone.{CycleOrNone}
 use Rattle.clock.specs.declared.state.CycleOrNone.the-variants.{NoCycle, Is}
-use Rattle.clock.specs.State.{fresh, isThere, cycleIn, openCycle, listOf}
+use Rattle.clock.specs.State.{fresh, isThere, cycleIn, currentCycle, listOf}
 use Rattle.clock.specs.Sound.{cycleSound, sound}
 use Rattle.clock.specs.Loading as loading
 use Rattle.clock.specs.Opening.{openingRefusals, keepsEven, openedOn}
@@ -107,11 +107,11 @@ module _ (c : Clock) (status : Status) (observed actionPoint : Microtick) (even 
       let both = both-true (sound c) (slot.sound status) (not-false (sound c && slot.sound status) (z23 .0)) in
       let times = neither (aboveTimeLimit (observed .0)) (aboveTimeLimit (actionPoint .0)) (z14 .0) in
       let k = clauses c (both .0) in
-      let l = listOf (openCycle c) c in
+      let l = listOf (currentCycle c) c in
       let d = deviationBy c status observed actionPoint in
-      with-list-sound c (openCycle c) (recorded (frameOf status .id) (status .channel) (record { deviation = record { 0 = d } }) l) (both .0)
-      (recorded-good (syncIdLimit (c .settings)) l (frameOf status .id) (list-of-typed c (openCycle c) even odd) (at-most (c .settings) (k .settings) 4 (lit< tt))
-      (list-of-sound c (openCycle c) (both .0)) (z15 .0) (status .channel) (record { deviation = record { 0 = d } })
+      with-list-sound c (currentCycle c) (recorded (frameOf status .id) (status .channel) (record { deviation = record { 0 = d } }) l) (both .0)
+      (recorded-good (syncIdLimit (c .settings)) l (frameOf status .id) (list-of-typed c (currentCycle c) even odd) (at-most (c .settings) (k .settings) 4 (lit< tt))
+      (list-of-sound c (currentCycle c) (both .0)) (z15 .0) (status .channel) (record { deviation = record { 0 = d } })
       (frame-id status (both .1) (has-frame status (z20 .0)))
       (deviation-ranged c status observed actionPoint (k .settings) (times .0) (times .1)))
 

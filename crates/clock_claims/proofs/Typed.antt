@@ -4,7 +4,7 @@ use mathlib.Core.Bool.{Bool, cond}
 use lib.ListN.{length}
 use Rattle.numbers.proofs.Walk.{cases}
 use Rattle.sync_list.specs.Lists.{empty, recorded}
-use Rattle.clock.specs.State.{isOdd, openCycle, listOf}
+use Rattle.clock.specs.State.{isOdd, currentCycle, listOf}
 use Rattle.clock.specs.Opening.{keepsEven}
 use Rattle.clock.specs.Measuring.{frameOf}
 use Rattle.clock_claims.specs.Typed.{TypedList, TypedAgain}
@@ -27,18 +27,18 @@ typed-again =
           };
       measured =
           λ c status d typed.
-          let l = listOf (openCycle c) c in
+          let l = listOf (currentCycle c) c in
           let rec = recorded (frameOf status .id) (status .channel) (record { deviation = record { 0 = d } }) l in
           let rows : TypedList rec =
-          recorded-typed (frameOf status .id) (status .channel) (record { deviation = record { 0 = d } }) l (list-of-typed c (openCycle c) (typed .even) (typed .odd)) in
+          recorded-typed (frameOf status .id) (status .channel) (record { deviation = record { 0 = d } }) l (list-of-typed c (currentCycle c) (typed .even) (typed .odd)) in
           record {
             settings = typed .settings;
             even =
-                cases (isOdd (openCycle c))
+                cases (isOdd (currentCycle c))
                 (λ t. ap (λ (b : Bool). length (cond b (c .even) rec .rows)) t ∙ typed .even)
                 (λ t. ap (λ (b : Bool). length (cond b (c .even) rec .rows)) t ∙ rows);
             odd =
-                cases (isOdd (openCycle c))
+                cases (isOdd (currentCycle c))
                 (λ t. ap (λ (b : Bool). length (cond b rec (c .odd) .rows)) t ∙ rows)
                 (λ t. ap (λ (b : Bool). length (cond b rec (c .odd) .rows)) t ∙ typed .odd);
           };

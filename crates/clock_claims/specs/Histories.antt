@@ -271,6 +271,10 @@ abbrev pub Holds : Past → Clock → Type 0
 Holds nothing c = c ≡ noClock
 Holds (since s) c = HoldsSince s c
 
+-- Every call can be made on every state, and so every sequence of calls: none of these claims is about nothing.
+abbrev pub Possible : Type 0
+Possible = (c : Clock) (calls : List Call) → (answers : List Answer) × (d : Clock) × MakesAll c calls answers d
+
 -- From the all-zero state on, after any sequence of calls: every answer and report is the history's, and the state holds what has happened.
 abbrev pub Histories : Type 0
 Histories =

@@ -13,7 +13,7 @@ use Rattle.measurements.specs.Measurements.{Taken, standsFor, differentIds}
 use Rattle.measurements.specs.Terms.{offsetValuesOf, rateValuesOf}
 use Rattle.clock.specs.declared.state.Clock.{Clock}
 use Rattle.clock.specs.declared.closing.CycleClosed.{CycleClosed}
-use Rattle.clock.specs.State.{isOdd, openCycle, listOf}
+use Rattle.clock.specs.State.{isOdd, currentCycle, listOf}
 use Rattle.clock.specs.Closing as closing
 use Rattle.clock.specs.Closing.{storedTerm, reportWith, CloseSays}
 use Rattle.clock_claims.specs.Typed.{TypedClock}
@@ -23,10 +23,10 @@ abbrev pub ReportedOver : Type 0
 ReportedOver =
     (c : Clock) (offsetControl rateControl : ℤ) (r : CycleClosed) → TypedClock c → CloseSays c offsetControl rateControl r
     → closing.told (r .answer) .number ≡ 0
-    → (ms before : List Taken) → Permuted ms (standsFor (listed (listOf (openCycle c) c))) → Permuted before (standsFor (listed (c .even)))
+    → (ms before : List Taken) → Permuted ms (standsFor (listed (listOf (currentCycle c) c))) → Permuted before (standsFor (listed (c .even)))
     → closing.told (r .answer) .report
     ≡ reportWith (c .settings) (offsetTerm (offsetValuesOf ms) (c .settings .«sends_sync») (offsetLimit (c .settings)))
-    (cond (isOdd (openCycle c))
+    (cond (isOdd (currentCycle c))
     (rateTerm (rateValuesOf ms before) (c .settings .«sends_sync») (c .rate .0) (driftDamping (c .settings)) (rateLimit (c .settings)))
     (storedTerm (c .rate .0)))
     (length (differentIds ms))

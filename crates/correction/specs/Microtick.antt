@@ -9,7 +9,7 @@ use lib.Signed.{leZ}
 abbrev pub timeLimit : ℕ
 timeLimit = 1280000
 
--- 14: "observed time or action point above 1,280,000 microticks", of one of the two.
+-- 14: "observed time or action point (both unsigned) above 1,280,000 microticks", of one of the two.
 abbrev pub aboveTimeLimit : ℕ → Bool
 aboveTimeLimit time = ltb timeLimit time
 

@@ -23,7 +23,7 @@ abbrev pub isNone : List ℤ → Bool
 isNone [] = true
 isNone (v ∷ vs) = false
 
--- "add one value 0 if this node sends sync".
+-- "add one value 0 if this node sends sync (H)".
 abbrev pub withOwn : Bool → List ℤ → List ℤ
 withOwn sendsSync values = values ++ cond sendsSync (pos 0 ∷ []) []
 
@@ -47,12 +47,12 @@ limited limit x = record { value = record { 0 = within limit x }; «is_missing»
 abbrev pub missing : ℤ → Term
 missing x = record { value = record { 0 = x }; «is_missing» = true; «is_limited» = false }
 
--- "No ID received: "offset missing", term 0. Otherwise add one value 0 if this node sends sync, and take the midpoint."
+-- "No ID received: "offset missing", term 0. Otherwise add one value 0 if this node sends sync (H), and take the midpoint."
 abbrev pub offsetTerm : List ℤ → Bool → ℕ → Term
 offsetTerm [] sendsSync limit = missing (pos 0)
 offsetTerm (v ∷ vs) sendsSync limit = limited limit (midpoint (withOwn sendsSync (v ∷ vs)))
 
--- "None: "rate missing", stored rate kept as it is. Otherwise add the 0 as above, midpoint, plus stored rate; then damp". `hold`
+-- "None: "rate missing", stored rate kept as it is (H). Otherwise add the 0 as above, midpoint, plus stored rate; then damp". `hold`
 -- says how the sum is held: whole, or as its type holds it.
 abbrev pub rateTermBy : (ℤ → ℤ) → List ℤ → Bool → ℤ → ℕ → ℕ → Term
 rateTermBy hold [] sendsSync stored d limit = missing stored

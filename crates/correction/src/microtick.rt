@@ -38,7 +38,7 @@ impl SignedMicrotick {
     const HIGHEST: i64 = 2_147_483_647;
 
     // A wide number as this type holds it: 0 where it does not fit.
-    pub fn holding(wide: i64) -> SignedMicrotick
+    pub(crate) fn holding(wide: i64) -> SignedMicrotick
         ensures { λ r. ⌜ r .0 ≡ held wide ⌝ }
     {
         if wide < SignedMicrotick::LOWEST {

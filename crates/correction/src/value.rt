@@ -1,7 +1,7 @@
 // What an ID adds to a midpoint: one value for the offset, one for the rate, or none.
 ghost use mathlib.Core.Path.{_≡_};
 ghost use Rattle.correction.specs.Microtick.{held};
-ghost use Rattle.correction.specs.Values.{smaller as Values·smaller, differenceBy, joined as Values·joined, offsetValue, rateValue, rateValueBy};
+ghost use Rattle.correction.specs.Values.{smaller as Values·smaller, differenceBy, joined as Values·joined, offsetValue, rateValueBy};
 use crate::microtick::SignedMicrotick;
 
 // A number of signed microticks, or none.

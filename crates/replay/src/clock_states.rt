@@ -16,7 +16,7 @@ pub fn put(held: Held) -> Turn {
     if taken.is_script_error {
         return Turn::script_error(held);
     }
-    // Up to the last cycle.
+    // The open switch and its cycle, the closed switch and its cycle.
     let mut item = [0u8; 4];
     if !script::take(&mut item) {
         return Turn::script_error(held);

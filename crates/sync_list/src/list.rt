@@ -27,7 +27,7 @@ impl SyncList {
     }
 
     // How many rows are listed: all, where the count is above them.
-    pub fn listed(self) -> usize
+    pub(crate) fn listed(self) -> usize
         ensures { λ r. ⌜ r ≡ listedCount self ⌝ }
     {
         if self.count < ROWS {

@@ -34,7 +34,7 @@ impl Measured {
     }
 
     // Its deviation, where there is one.
-    pub fn value(self) -> Value
+    pub(crate) fn value(self) -> Value
         ensures { λ r. ⌜ r ≡ valueOf self ⌝ }
     {
         match self {
@@ -60,7 +60,7 @@ impl Row {
     }
 
     // What was measured on a channel.
-    pub fn on(self, channel: Channel) -> Measured
+    pub(crate) fn on(self, channel: Channel) -> Measured
         ensures { λ r. ⌜ r ≡ Rows·on channel self ⌝ }
     {
         let on_a = self.on_a;
@@ -72,7 +72,7 @@ impl Row {
     }
 
     // The row with a measurement on a channel.
-    pub fn with(self, channel: Channel, measurement: Measurement) -> Row
+    pub(crate) fn with(self, channel: Channel, measurement: Measurement) -> Row
         ensures { λ r. ⌜ r ≡ withMeasured channel measurement self ⌝ }
     {
         let id = self.id;
@@ -93,7 +93,7 @@ impl Row {
         }
     }
 
-    pub fn deviations(self) -> Deviations
+    pub(crate) fn deviations(self) -> Deviations
         ensures { λ r. ⌜ r ≡ deviationsOf self ⌝ }
     {
         let on_a = self.on_a;

@@ -1,11 +1,9 @@
 // The values that the IDs of a list add to a midpoint.
 ghost use mathlib.Core.Path.{_≡_};
-ghost use Prim.Native.Nat.{_≤_};
-ghost use lib.ListN.{take};
 ghost use Rattle.correction.specs.Microtick.{held};
 ghost use Rattle.correction.specs.Terms.{valuesIn};
 ghost use Rattle.sync_list.specs.Lists.{listed};
-ghost use Rattle.sync_list.specs.Values.{offsetValues, rateValues, rateValuesBy};
+ghost use Rattle.sync_list.specs.Values.{offsetValues, rateValuesBy};
 use crate::list::SyncList;
 use crate::places;
 use crate::row::Row;

@@ -147,14 +147,16 @@ returns-5 c =
     ∙ first-skip 18 _ (ap not (is-open (k .before .before .before .before .before .before .before .before)))
     ∙ first-skip 21 _ (ap (λ (b : Bool). b || notAControl (a .rate-control)) (offset-named (k .before .before .before .before)) ∙ rate-named k)
     ∙ first-end in
+    let reported : c .before .before .report-of .result ≡ reportOf (a .clock) (signOf (offset .0 .0)) (signOf (rate .0 .0)) = c .before .before .report-of .ensures in
     let report : c .before .before .report-of .result ≡ reportOf (a .clock) (a .offset-control) (a .rate-control) =
-    c .before .before .report-of .ensures
+    reported
     ∙ ap (λ (z : ℤ). reportOf (a .clock) z (signOf (rate .0 .0))) (named-sign (a .offset-control) (offset .0 .0) (sym (named-as (k .before .before .before .before .before .before .before)) ∙ offset .1))
     ∙ ap (reportOf (a .clock) (a .offset-control)) (named-sign (a .rate-control) (rate .0 .0) (sym (named-as-2 (k .before .before .before)) ∙ rate .1)) in
     let stored : c .before .before .before .rate-found .result .value ≡ rateFound (a .clock) .value =
     ap (λ (t : Term). t .value) (c .before .before .before .rate-found .ensures) in
+    let closed : c .closed-with .result ≡ closedWith (a .clock) (c .before .before .before .rate-found .result .value) = c .closed-with .ensures in
     close-says (a .clock) (a .offset-control) (a .rate-control) 0 (Closed (c .before .before .report-of .result)) (c .closed-with .result) number
-    (ap (λ (r : Report). record { number = 0; report = r }) report) (c .closed-with .ensures ∙ ap (closedWith (a .clock)) stored)
+    (ap (λ (r : Report). record { number = 0; report = r }) report) (closed ∙ ap (closedWith (a .clock)) stored)
 
 pub close-cycle-spec : {M : Type 1} → statement M
 close-cycle-spec =

@@ -3,11 +3,11 @@ use Rattle.clock.proofs.closing.closed_with.Statement.{statement}
 use Rattle.clock.proofs.closing.closed_with.Tie as tie
 use Rattle.clock.proofs.closing.closed_with.Reads as reads
 use Rattle.clock.proofs.closing.closed_with.Lts as lts
-use Rattle.clock.proofs.state.Clock.open_cycle.Reads as open-cycle-reads
+use Rattle.clock.proofs.state.Clock.current_cycle.Reads as current-cycle-reads
 use Rattle.clock.specs.declared.state.CycleOrNone.the-variants.{NoCycle, Is}
 
-open-cycle-requires : tie.Need-open-cycle-requires
-open-cycle-requires c κs = search needs
+current-cycle-requires : tie.Need-current-cycle-requires
+current-cycle-requires c κs = search needs
 
 returns : tie.Need-returns
 returns c =
@@ -17,9 +17,9 @@ returns c =
       even = a .clock .even;
       odd = a .clock .odd;
       opened = NoCycle;
-      «last_closed» = Is (c .open-cycle .ensures i);
+      «last_closed» = Is (c .current-cycle .ensures i);
       rate = a .rate;
     }
 
 pub closed-with-spec : {M : Type 1} → statement M
-closed-with-spec = tie.close (tie.spec open-cycle-requires returns)
+closed-with-spec = tie.close (tie.spec current-cycle-requires returns)

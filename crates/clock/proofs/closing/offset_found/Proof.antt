@@ -4,13 +4,17 @@ use Rattle.clock.proofs.closing.offset_found.Tie as tie
 use Rattle.clock.proofs.closing.offset_found.Reads as reads
 use Rattle.clock.proofs.closing.offset_found.Lts as lts
 use Rattle.clock.proofs.state.Clock.list_of.Reads as list-of-reads
-use Rattle.clock.proofs.state.Clock.open_cycle.Reads as open-cycle-reads
+use Rattle.clock.proofs.state.Clock.current_cycle.Reads as current-cycle-reads
 use Rattle.correction.proofs.offset_term.Reads as offset-term-reads
 use Rattle.settings.proofs.Settings.offset_limit.Reads as offset-limit-reads
 use Rattle.sync_list.proofs.list.SyncList.offset_values.Reads as offset-values-reads
+use mathlib.Core.Path.{_≡_}
+use Rattle.correction.specs.Terms.{valuesIn}
+use Rattle.sync_list.specs.Lists.{listed}
+use Rattle.sync_list.specs.Values.{offsetValues}
 
-open-cycle-requires : tie.Need-open-cycle-requires
-open-cycle-requires c κs = search needs
+current-cycle-requires : tie.Need-current-cycle-requires
+current-cycle-requires c κs = search needs
 
 list-of-requires : tie.Need-list-of-requires
 list-of-requires c κs = search needs
@@ -26,14 +30,16 @@ offset-term-requires c κs = search needs
 
 returns : tie.Need-returns
 returns c =
-    rw (c .before .offset-limit .ensures, c .before .before .offset-values .ensures, c .before .before .before .list-of .ensures, c .before .before .before .before .open-cycle .ensures)
+    let values : valuesIn (c .before .before .offset-values .result) ≡ offsetValues (listed (c .before .before .before .list-of .result)) =
+    c .before .before .offset-values .ensures in
+    rw (c .before .offset-limit .ensures, values, c .before .before .before .list-of .ensures, c .before .before .before .before .current-cycle .ensures)
     at (c .offset-term .ensures)
 
 pub offset-found-spec : {M : Type 1} → statement M
 offset-found-spec =
     tie.close
     (tie.spec
-    open-cycle-requires
+    current-cycle-requires
     list-of-requires
     offset-values-requires
     offset-limit-requires

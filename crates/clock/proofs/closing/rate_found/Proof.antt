@@ -3,7 +3,7 @@ use Rattle.clock.proofs.closing.rate_found.Statement.{statement}
 use Rattle.clock.proofs.closing.rate_found.Tie as tie
 use Rattle.clock.proofs.closing.rate_found.Reads as reads
 use Rattle.clock.proofs.closing.rate_found.Lts as lts
-use Rattle.clock.proofs.state.Clock.open_cycle.Reads as open-cycle-reads
+use Rattle.clock.proofs.state.Clock.current_cycle.Reads as current-cycle-reads
 use Rattle.clock.proofs.state.is_odd.Reads as is-odd-reads
 use Rattle.correction.proofs.rate_term.Reads as rate-term-reads
 use Rattle.settings.proofs.Settings.drift_damping.Reads as drift-damping-reads
@@ -11,7 +11,7 @@ use Rattle.settings.proofs.Settings.rate_limit.Reads as rate-limit-reads
 use Rattle.sync_list.proofs.list.SyncList.rate_values.Reads as rate-values-reads
 use mathlib.Core.Path.{_≡_, sym, ap, _∙_}
 use borrow.Author.Tests.{not-true, not-false}
-use Rattle.clock.specs.State.{isOdd, openCycle}
+use Rattle.clock.specs.State.{isOdd, currentCycle}
 use Rattle.clock.proofs.RangeLaws.{rate-is-whole}
 use Rattle.settings.specs.Sheet.{driftDamping, rateLimit}
 use Rattle.correction.specs.Microtick.{held}
@@ -19,11 +19,11 @@ use Rattle.correction.specs.Terms.{rateTermBy}
 use Rattle.sync_list.specs.Lists.{listed}
 use Rattle.sync_list.specs.Values.{rateValuesBy}
 
-odd-is : (c : tie.After-is-odd) → isOdd (openCycle (c .before .before .before .before .before .before .args .clock)) ≡ c .is-odd .result
-odd-is c = sym (c .is-odd .ensures ∙ ap isOdd (c .before .open-cycle .ensures))
+odd-is : (c : tie.After-is-odd) → isOdd (currentCycle (c .before .before .before .before .before .before .args .clock)) ≡ c .is-odd .result
+odd-is c = sym (c .is-odd .ensures ∙ ap isOdd (c .before .current-cycle .ensures))
 
-open-cycle-requires : tie.Need-open-cycle-requires
-open-cycle-requires c κs = search needs
+current-cycle-requires : tie.Need-current-cycle-requires
+current-cycle-requires c κs = search needs
 
 is-odd-requires : tie.Need-is-odd-requires
 is-odd-requires c κs = search needs
@@ -58,7 +58,7 @@ pub rate-found-spec : {M : Type 1} → statement M
 rate-found-spec =
     tie.close
     (tie.spec
-    open-cycle-requires
+    current-cycle-requires
     is-odd-requires
     returns
     rate-values-requires

@@ -5,7 +5,7 @@ use Rattle.clock.proofs.closing.report_of.Reads as reads
 use Rattle.clock.proofs.closing.report_of.Lts as lts
 use Rattle.clock.proofs.closing.offset_found.Reads as offset-found-reads
 use Rattle.clock.proofs.state.Clock.list_of.Reads as list-of-reads
-use Rattle.clock.proofs.state.Clock.open_cycle.Reads as open-cycle-reads
+use Rattle.clock.proofs.state.Clock.current_cycle.Reads as current-cycle-reads
 use Rattle.correction.proofs.with_external.Reads as with-external-reads
 use Rattle.settings.proofs.Settings.external_offset_unit.Reads as external-offset-unit-reads
 use Rattle.settings.proofs.Settings.external_rate_unit.Reads as external-rate-unit-reads
@@ -13,12 +13,12 @@ use mathlib.Core.Path.{_≡_, ap, _∙_}
 use Rattle.settings.specs.Sheet.{externalOffsetUnit, externalRateUnit}
 use Rattle.correction.specs.External.{signOf, withExternal}
 use Rattle.frame.specs.declared.header.Cycle.{Cycle}
-use Rattle.clock.specs.State.{openCycle, listOf}
+use Rattle.clock.specs.State.{currentCycle, listOf}
 use Rattle.clock.specs.Closing.{offsetFound, rateFound}
 use Rattle.clock.proofs.RangeLaws.{offset-reported, rate-reported}
 
-open-cycle-requires : tie.Need-open-cycle-requires
-open-cycle-requires c κs = search needs
+current-cycle-requires : tie.Need-current-cycle-requires
+current-cycle-requires c κs = search needs
 
 list-of-requires : tie.Need-list-of-requires
 list-of-requires c κs = search needs
@@ -44,8 +44,8 @@ returns c =
     let k = s .args .clock in
     let offset = c .before .before .before .before .before .before .offset-found .ensures in
     let rate = s .pre .1 in
-    let list : c .before .before .before .before .before .before .before .list-of .result ≡ listOf (openCycle k) k =
-    c .before .before .before .before .before .before .before .list-of .ensures ∙ ap (λ (n : Cycle). listOf n k) (c .before .before .before .before .before .before .before .before .open-cycle .ensures) in
+    let list : c .before .before .before .before .before .before .before .list-of .result ≡ listOf (currentCycle k) k =
+    c .before .before .before .before .before .before .before .list-of .ensures ∙ ap (λ (n : Cycle). listOf n k) (c .before .before .before .before .before .before .before .before .current-cycle .ensures) in
     let offset-term : c .before .before .with-external .result .0 ≡ withExternal (offsetFound k .value .0) (signOf (s .args .offset-control)) (externalOffsetUnit (k .settings)) =
     rw (c .before .before .before .external-offset-unit .ensures, offset) at (c .before .before .with-external .ensures)
     ∙ offset-reported k (s .pre .0) (s .args .offset-control) in
@@ -65,7 +65,7 @@ pub report-of-spec : {M : Type 1} → statement M
 report-of-spec =
     tie.close
     (tie.spec
-    open-cycle-requires
+    current-cycle-requires
     list-of-requires
     offset-found-requires
     external-offset-unit-requires

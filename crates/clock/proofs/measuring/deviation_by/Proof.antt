@@ -6,6 +6,9 @@ use Rattle.clock.proofs.measuring.deviation_by.Lts as lts
 use Rattle.clock.proofs.measuring.delay_on.Reads as delay-on-reads
 use Rattle.correction.proofs.deviation.Reads as deviation-reads
 use Rattle.settings.proofs.Settings.decoding_correction.Reads as decoding-correction-reads
+use mathlib.Core.Path.{_≡_}
+use Rattle.correction.specs.Microtick.{held}
+use Rattle.correction.specs.Deviation.{deviation}
 
 delay-on-requires : tie.Need-delay-on-requires
 delay-on-requires c κs = search needs
@@ -17,7 +20,11 @@ deviation-requires : tie.Need-deviation-requires
 deviation-requires c κs = search needs
 
 returns : tie.Need-returns
-returns c = rw (c .before .decoding-correction .ensures, c .before .before .delay-on .ensures) at (c .deviation .ensures)
+returns c =
+    let a = c .before .before .before .before .args in
+    let told : c .deviation .result .0 ≡ held (deviation (a .observed .0) (c .before .decoding-correction .result) (c .before .before .delay-on .result) (a .action-point .0)) =
+    c .deviation .ensures in
+    rw (c .before .decoding-correction .ensures, c .before .before .delay-on .ensures) at told
 
 pub deviation-by-spec : {M : Type 1} → statement M
 deviation-by-spec =

@@ -5,15 +5,15 @@ use Rattle.clock.proofs.measuring.list_full.Reads as reads
 use Rattle.clock.proofs.measuring.list_full.Lts as lts
 use Rattle.clock.proofs.measuring.frame_of.Reads as frame-of-reads
 use Rattle.clock.proofs.state.Clock.list_of.Reads as list-of-reads
-use Rattle.clock.proofs.state.Clock.open_cycle.Reads as open-cycle-reads
+use Rattle.clock.proofs.state.Clock.current_cycle.Reads as current-cycle-reads
 use Rattle.settings.proofs.Settings.sync_id_limit.Reads as sync-id-limit-reads
 use Rattle.sync_list.proofs.list.SyncList.is_full_for.Reads as is-full-for-reads
 
 frame-of-requires : tie.Need-frame-of-requires
 frame-of-requires c κs = search needs
 
-open-cycle-requires : tie.Need-open-cycle-requires
-open-cycle-requires c κs = search needs
+current-cycle-requires : tie.Need-current-cycle-requires
+current-cycle-requires c κs = search needs
 
 list-of-requires : tie.Need-list-of-requires
 list-of-requires c κs = search needs
@@ -26,7 +26,7 @@ is-full-for-requires c κs = search needs
 
 returns : tie.Need-returns
 returns c =
-    rw (c .before .sync-id-limit .ensures, c .before .before .list-of .ensures, c .before .before .before .open-cycle .ensures, c .before .before .before .before .before .frame-of .ensures)
+    rw (c .before .sync-id-limit .ensures, c .before .before .list-of .ensures, c .before .before .before .current-cycle .ensures, c .before .before .before .before .before .frame-of .ensures)
     at (c .is-full-for .ensures)
 
 pub list-full-spec : {M : Type 1} → statement M
@@ -34,7 +34,7 @@ list-full-spec =
     tie.close
     (tie.spec
     frame-of-requires
-    open-cycle-requires
+    current-cycle-requires
     list-of-requires
     sync-id-limit-requires
     is-full-for-requires

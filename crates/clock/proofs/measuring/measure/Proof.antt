@@ -56,11 +56,11 @@ times-low c = ap (λ (b : Bool). b || aboveTimeLimit (c .before .before .before 
 has-sync-frame : (c : tie.Else6) → noSyncFrame (c .before .before .before .before .before .before .before .before .before .before .before .before .args .status) ≡ false
 has-sync-frame c = sym (c .before .no-sync-frame .ensures) ∙ c .if6 .left
 
-same-cycle : (c : tie.Else7) → otherCycle (c .before .before .before .before .before .before .before .before .before .before .before .before .before .before .args .clock) (c .before .before .before .before .before .before .before .before .before .before .before .before .before .before .args .status) ≡ false
-same-cycle c = sym (c .before .other-cycle .ensures) ∙ c .if7 .left
+same-cycle : (c : tie.Else7) → otherCycle (c .before .before .before .before .before .before .before .before .before .before .before .before .before .before .before .args .clock) (c .before .before .before .before .before .before .before .before .before .before .before .before .before .before .before .args .status) ≡ false
+same-cycle c = let same : c .before .before .other-cycle .result ≡ false = c .if7 .left in sym (c .before .before .other-cycle .ensures) ∙ same
 
 not-yet : (c : tie.Else8) → measuredAlready (c .before .before .before .before .before .before .before .before .before .before .before .before .before .before .before .before .args .clock) (c .before .before .before .before .before .before .before .before .before .before .before .before .before .before .before .before .args .status) ≡ false
-not-yet c = sym (c .before .measured-already .ensures) ∙ c .if8 .left
+not-yet c = sym (c .before .before .measured-already .ensures) ∙ c .if8 .left
 
 has-room : (c : tie.Else9) → listFull (c .before .before .before .before .before .before .before .before .before .before .before .before .before .before .before .before .before .before .args .clock) (c .before .before .before .before .before .before .before .before .before .before .before .before .before .before .before .before .before .before .args .status) ≡ false
 has-room c = sym (c .before .list-full .ensures) ∙ c .if9 .left
@@ -168,24 +168,24 @@ returns-6 c =
 other-cycle-requires : tie.Need-other-cycle-requires
 other-cycle-requires c κs = search needs
 
+measured-already-requires : tie.Need-measured-already-requires
+measured-already-requires c κs = search needs
+
 refused-requires-7 : tie.Need-refused-requires-7
 refused-requires-7 c κs = search needs
 
 returns-7 : tie.Need-returns-7
 returns-7 c =
-    let a = c .before .before .before .before .before .before .before .before .before .before .before .before .before .before .before .args in
-    let other : otherCycle (a .clock) (a .status) ≡ true = sym (c .before .before .other-cycle .ensures) ∙ c .before .if7 .taken in
+    let a = c .before .before .before .before .before .before .before .before .before .before .before .before .before .before .before .before .args in
+    let other : otherCycle (a .clock) (a .status) ≡ true = sym (c .before .before .before .other-cycle .ensures) ∙ c .before .if7 .taken in
     let number : first (measureRefusals (a .clock) (a .status) (a .observed) (a .action-point)) ≡ 22 =
-    first-skip 23 _ (both-sound (c .before .before .before .before .before .before .before .before .before .before .before))
-    ∙ first-skip 18 _ (ap not (is-open (c .before .before .before .before .before .before .before .before .before)))
-    ∙ first-skip 14 _ (times-low (c .before .before .before .before .before))
-    ∙ first-skip 20 _ (has-sync-frame (c .before .before .before))
+    first-skip 23 _ (both-sound (c .before .before .before .before .before .before .before .before .before .before .before .before))
+    ∙ first-skip 18 _ (ap not (is-open (c .before .before .before .before .before .before .before .before .before .before)))
+    ∙ first-skip 14 _ (times-low (c .before .before .before .before .before .before))
+    ∙ first-skip 20 _ (has-sync-frame (c .before .before .before .before))
     ∙ first-here 22 _ other in
     subst (MeasureSays (a .clock) (a .status) (a .observed) (a .action-point)) (sym (c .refused7 .ensures))
     (measure-says (a .clock) (a .status) (a .observed) (a .action-point) 22 OtherCycle (a .clock) number refl refl)
-
-measured-already-requires : tie.Need-measured-already-requires
-measured-already-requires c κs = search needs
 
 refused-requires-8 : tie.Need-refused-requires-8
 refused-requires-8 c κs = search needs
@@ -193,13 +193,13 @@ refused-requires-8 c κs = search needs
 returns-8 : tie.Need-returns-8
 returns-8 c =
     let a = c .before .before .before .before .before .before .before .before .before .before .before .before .before .before .before .before .before .args in
-    let already : measuredAlready (a .clock) (a .status) ≡ true = sym (c .before .before .measured-already .ensures) ∙ c .before .if8 .taken in
+    let already : measuredAlready (a .clock) (a .status) ≡ true = sym (c .before .before .before .measured-already .ensures) ∙ c .before .if8 .taken in
     let number : first (measureRefusals (a .clock) (a .status) (a .observed) (a .action-point)) ≡ 16 =
     first-skip 23 _ (both-sound (c .before .before .before .before .before .before .before .before .before .before .before .before .before))
     ∙ first-skip 18 _ (ap not (is-open (c .before .before .before .before .before .before .before .before .before .before .before)))
     ∙ first-skip 14 _ (times-low (c .before .before .before .before .before .before .before))
     ∙ first-skip 20 _ (has-sync-frame (c .before .before .before .before .before))
-    ∙ first-skip 22 _ (same-cycle (c .before .before .before))
+    ∙ first-skip 22 _ (same-cycle (c .before .before))
     ∙ first-here 16 _ already in
     subst (MeasureSays (a .clock) (a .status) (a .observed) (a .action-point)) (sym (c .refused8 .ensures))
     (measure-says (a .clock) (a .status) (a .observed) (a .action-point) 16 MeasuredAlready (a .clock) number refl refl)
@@ -219,7 +219,7 @@ returns-9 c =
     ∙ first-skip 18 _ (ap not (is-open (c .before .before .before .before .before .before .before .before .before .before .before .before .before)))
     ∙ first-skip 14 _ (times-low (c .before .before .before .before .before .before .before .before .before))
     ∙ first-skip 20 _ (has-sync-frame (c .before .before .before .before .before .before .before))
-    ∙ first-skip 22 _ (same-cycle (c .before .before .before .before .before))
+    ∙ first-skip 22 _ (same-cycle (c .before .before .before .before))
     ∙ first-skip 16 _ (not-yet (c .before .before .before))
     ∙ first-here 15 _ full in
     subst (MeasureSays (a .clock) (a .status) (a .observed) (a .action-point)) (sym (c .refused9 .ensures))
@@ -240,7 +240,7 @@ returns-10 c =
     ∙ first-skip 18 _ (ap not (is-open (c .before .before .before .before .before .before .before .before .before .before .before .before .before .before)))
     ∙ first-skip 14 _ (times-low (c .before .before .before .before .before .before .before .before .before .before))
     ∙ first-skip 20 _ (has-sync-frame (c .before .before .before .before .before .before .before .before))
-    ∙ first-skip 22 _ (same-cycle (c .before .before .before .before .before .before))
+    ∙ first-skip 22 _ (same-cycle (c .before .before .before .before .before))
     ∙ first-skip 16 _ (not-yet (c .before .before .before .before))
     ∙ first-skip 15 _ (has-room (c .before .before))
     ∙ first-end in
@@ -275,9 +275,9 @@ measure-spec =
     refused-requires-6
     returns-6
     other-cycle-requires
+    measured-already-requires
     refused-requires-7
     returns-7
-    measured-already-requires
     refused-requires-8
     returns-8
     list-full-requires

@@ -5,14 +5,14 @@ use Rattle.clock.proofs.measuring.measured_already.Reads as reads
 use Rattle.clock.proofs.measuring.measured_already.Lts as lts
 use Rattle.clock.proofs.measuring.frame_of.Reads as frame-of-reads
 use Rattle.clock.proofs.state.Clock.list_of.Reads as list-of-reads
-use Rattle.clock.proofs.state.Clock.open_cycle.Reads as open-cycle-reads
+use Rattle.clock.proofs.state.Clock.current_cycle.Reads as current-cycle-reads
 use Rattle.sync_list.proofs.list.SyncList.has.Reads as has-reads
 
 frame-of-requires : tie.Need-frame-of-requires
 frame-of-requires c κs = search needs
 
-open-cycle-requires : tie.Need-open-cycle-requires
-open-cycle-requires c κs = search needs
+current-cycle-requires : tie.Need-current-cycle-requires
+current-cycle-requires c κs = search needs
 
 list-of-requires : tie.Need-list-of-requires
 list-of-requires c κs = search needs
@@ -22,9 +22,9 @@ has-requires c κs = search needs
 
 returns : tie.Need-returns
 returns c =
-    rw (c .before .list-of .ensures, c .before .before .open-cycle .ensures, c .before .before .before .frame-of .ensures) at (c .has .ensures)
+    rw (c .before .list-of .ensures, c .before .before .current-cycle .ensures, c .before .before .before .frame-of .ensures) at (c .has .ensures)
 
 pub measured-already-spec : {M : Type 1} → statement M
 measured-already-spec =
     tie.close
-    (tie.spec frame-of-requires open-cycle-requires list-of-requires has-requires returns)
+    (tie.spec frame-of-requires current-cycle-requires list-of-requires has-requires returns)

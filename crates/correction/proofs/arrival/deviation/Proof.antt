@@ -6,12 +6,18 @@ use Rattle.correction.proofs.arrival.deviation.Lts as lts
 use Rattle.correction.proofs.microtick.SignedMicrotick.holding.Reads as holding-reads
 use Prim.Native.Nat.{_<_, _^_}
 use native.Mathlib.Omega.{arith}
-use lib.IntN.{pos, _-ℤ_}
+use mathlib.Core.Path.{_≡_}
+use lib.IntN.{ℤ, pos, _-ℤ_}
 use mir.Syntax.{w64}
-use mir.Val.{SFits}
+use mir.Val.{SFits, toZ, ofZ}
 use mir.Facts.{toZ-ofZ}
 use Rattle.numbers.proofs.Signed.{signed, sub-sums}
 use Rattle.numbers.proofs.Wide.{wide-unsigned}
+use Rattle.correction.specs.Microtick.{held}
+
+-- a number as an i64 keeps it
+abbrev as-wide : ℤ → ℤ
+as-wide z = toZ w64 (ofZ w64 z)
 
 -- the three differences, each of which an i64 holds
 module _ (c : tie.After-struct-known) where
@@ -81,7 +87,9 @@ holding-requires c κs = search needs
 returns : tie.Need-returns
 returns c =
     let p = c .before in
-    rw (wide-unsigned _ (observed-small (p .before)), wide-unsigned _ (correction-small (p .before)), toZ-ofZ (corrected (p .before)), wide-unsigned _ (delay-small (p .before)), toZ-ofZ (sent (p .before)), wide-unsigned _ (action-point-small p), toZ-ofZ (whole-fits p)) at (c .holding .ensures)
+    let a = p .before .before .args in
+    let told : c .holding .result .0 ≡ held (as-wide (as-wide (as-wide (toZ w64 (a .observed .0) -ℤ toZ w64 (a .correction)) -ℤ toZ w64 (a .delay)) -ℤ toZ w64 (a .action-point .0))) = c .holding .ensures in
+    rw (wide-unsigned _ (observed-small (p .before)), wide-unsigned _ (correction-small (p .before)), toZ-ofZ (corrected (p .before)), wide-unsigned _ (delay-small (p .before)), toZ-ofZ (sent (p .before)), wide-unsigned _ (action-point-small p), toZ-ofZ (whole-fits p)) at told
 
 pub deviation-spec : {M : Type 1} → statement M
 deviation-spec =

@@ -7,10 +7,10 @@ use Prim.Native.Nat.{_<_, _^_}
 use mathlib.Core.Path.{_≡_}
 use mathlib.Core.Bool.{true, false}
 use native.Mathlib.Omega.{arith}
-use lib.IntN.{pos, negℤ, _+ℤ_, +ℤ-idl}
+use lib.IntN.{pos, negℤ, _+ℤ_, _-ℤ_, +ℤ-idl}
 use lib.Signed.{ltZ}
-use mir.Syntax.{w32}
-use mir.Val.{SFits}
+use mir.Syntax.{w32, w64}
+use mir.Val.{SFits, toZ, ofZ}
 use mir.Facts.{toZ-ofZ}
 use Rattle.numbers.proofs.Signed.{signed, up-neg, dn-neg}
 use Rattle.numbers.proofs.Wide.{wide-unsigned, wide-asked, wide-signed, wide-negated}
@@ -35,12 +35,14 @@ not-over c =
 under : (c : tie.Then2) → ltZ (c .before .before .before .before .args .x .0) (negℤ (pos (c .before .before .before .before .args .limit))) ≡ true
 under c =
     let s = c .before .before .before .before in
-    rw (wide-signed (x-fits s), wide-unsigned _ (limit-small s), toZ-ofZ (wide-negated _ (limit-small s)), +ℤ-idl) at (c .if2 .taken)
+    let told : ltZ (s .args .x .0) (toZ w64 (ofZ w64 (pos 0 -ℤ pos (s .args .limit)))) ≡ true = rw (wide-signed (x-fits s), wide-unsigned _ (limit-small s)) at (c .if2 .taken) in
+    rw (toZ-ofZ (wide-negated _ (limit-small s)), +ℤ-idl) at told
 
 not-under : (c : tie.Else2) → ltZ (c .before .before .before .before .args .x .0) (negℤ (pos (c .before .before .before .before .args .limit))) ≡ false
 not-under c =
     let s = c .before .before .before .before in
-    rw (wide-signed (x-fits s), wide-unsigned _ (limit-small s), toZ-ofZ (wide-negated _ (limit-small s)), +ℤ-idl) at (c .if2 .left)
+    let told : ltZ (s .args .x .0) (toZ w64 (ofZ w64 (pos 0 -ℤ pos (s .args .limit)))) ≡ false = rw (wide-signed (x-fits s), wide-unsigned _ (limit-small s)) at (c .if2 .left) in
+    rw (toZ-ofZ (wide-negated _ (limit-small s)), +ℤ-idl) at told
 
 -- a limit that a number lies outside of fits where the number fits
 highest-fits : (c : tie.Then1) → SFits w32 (pos (c .before .before .before .args .limit))

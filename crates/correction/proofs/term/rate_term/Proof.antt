@@ -70,8 +70,9 @@ returns-2 c =
     let g = stored-fits (m .before .before .before) in
     let added : c .before .before .holding .result .0 ≡ held (m .middle .result .0 +ℤ a .stored .0) =
     rw (wide-signed f, wide-signed g, toZ-ofZ (wide-sum f g)) at (c .before .before .holding .ensures) in
+    let held-damped : c .before .damped .result .0 ≡ damped (a .damping) (c .before .before .holding .result .0) = c .before .damped .ensures in
     let rate : c .before .damped .result .0 ≡ damped (a .damping) (held (midpoint (withOwn (a .sends-sync) (valuesIn (a .values))) +ℤ a .stored .0)) =
-    c .before .damped .ensures
+    held-damped
     ∙ ap (damped (a .damping)) (added ∙ ap (λ (x : ℤ). held (x +ℤ a .stored .0)) (m .middle .ensures)) in
     c .limited .ensures
     ∙ ap (limited (a .limit)) rate

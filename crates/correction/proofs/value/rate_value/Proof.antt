@@ -5,6 +5,8 @@ use Rattle.correction.proofs.value.rate_value.Reads as reads
 use Rattle.correction.proofs.value.rate_value.Lts as lts
 use Rattle.correction.proofs.value.difference.Reads as difference-reads
 use Rattle.correction.proofs.value.joined.Reads as joined-reads
+use mathlib.Core.Path.{_≡_}
+use Rattle.correction.specs.Values.{joined}
 
 difference-requires : tie.Need-difference-requires
 difference-requires c κs = search needs
@@ -16,7 +18,9 @@ joined-requires : tie.Need-joined-requires
 joined-requires c κs = search needs
 
 returns : tie.Need-returns
-returns c = rw (c .before .before .difference .ensures, c .before .difference2 .ensures) at (c .joined .ensures)
+returns c =
+    let told : c .joined .result ≡ joined (c .before .before .difference .result) (c .before .difference2 .result) = c .joined .ensures in
+    rw (c .before .before .difference .ensures, c .before .difference2 .ensures) at told
 
 pub rate-value-spec : {M : Type 1} → statement M
 rate-value-spec =

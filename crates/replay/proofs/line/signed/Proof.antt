@@ -1,7 +1,7 @@
 -- A number of 32 bits is one of 64, and so is the negative of it.
 use borrow.Author.Needs.{needs}
 use Prim.Native.Nat.{_<_, _^_}
-use mathlib.Core.Path.{_≡_, ap, _∙_, subst}
+use mathlib.Core.Path.{_≡_, subst}
 use mathlib.Core.Bool.{true, false}
 use native.Mathlib.Omega.{arith}
 use borrow.Author.Tests.{ltb-true}
@@ -9,8 +9,9 @@ use lib.Dec.{T}
 use lib.IntN.{ℤ, pos, negsuc, _-ℤ_}
 use lib.Signed.{ltZ, nonNeg}
 use mir.Syntax.{w32, w64}
-use mir.Val.{SFits, toZ, ofZ}
-use mir.Facts.{toZ-ofZ, sfits-widen, fits-natAbs}
+use mir.Val.{SFits}
+use mir.Facts.{toZ-ofZ, fits-natAbs}
+use Rattle.numbers.proofs.Wide.{wide-fits, wide-signed}
 use Rattle.replay.proofs.line.signed.Statement.{statement}
 use Rattle.replay.proofs.line.signed.Tie as tie
 
@@ -33,20 +34,14 @@ stays-above (negsuc n) t = absurd (subst T t tt)
 fits : (c : tie.Start) → SFits w32 (c .args .number)
 fits c = search needs
 
-wide-fits : (c : tie.Start) → SFits w64 (c .args .number)
-wide-fits c = sfits-widen tt (fits c)
-
-wide : (c : tie.Start) → toZ w64 (ofZ w64 (toZ w32 (ofZ w32 (c .args .number)))) ≡ c .args .number
-wide c = ap (λ (z : ℤ). toZ w64 (ofZ w64 z)) (toZ-ofZ (fits c)) ∙ toZ-ofZ (wide-fits c)
-
 is-negative : (c : tie.Then1) → ltZ (c .before .args .number) (pos 0) ≡ true
-is-negative c = rw (wide (c .before)) at (c .if1 .taken)
+is-negative c = rw (wide-signed (fits (c .before))) at (c .if1 .taken)
 
 turned-fits : (c : tie.Then1) → SFits w64 (pos 0 -ℤ c .before .args .number)
 turned-fits c = negative-fits (c .before .args .number) (is-negative c) (fits (c .before))
 
 cast-wide : tie.Need-cast-wide
-cast-wide c = rw (toZ-ofZ (fits c)) (wide-fits c)
+cast-wide c = rw (toZ-ofZ (fits c)) (wide-fits (fits c))
 
 slice-aggregate-put : tie.Need-slice-aggregate-put
 slice-aggregate-put c = search needs
@@ -55,12 +50,12 @@ put-requires : tie.Need-put-requires
 put-requires c κs = search needs
 
 sub-put-digits : tie.Need-sub-put-digits
-sub-put-digits c = let n = c .before .before .before .before in rw (wide (n .before)) (turned-fits n)
+sub-put-digits c = let n = c .before .before .before .before in rw (wide-signed (fits (n .before))) (turned-fits n)
 
 cast-put-digits : tie.Need-cast-put-digits
 cast-put-digits c =
     let n = c .before .before .before .before in
-    rw (wide (n .before), toZ-ofZ (turned-fits n))
+    rw (wide-signed (fits (n .before)), toZ-ofZ (turned-fits n))
     (turned-above (n .before .args .number) (is-negative n), fits-natAbs tt (turned-fits n))
 
 put-digits-requires : tie.Need-put-digits-requires
@@ -72,8 +67,8 @@ returns c = search needs
 cast-decimal : tie.Need-cast-decimal
 cast-decimal c =
     let s = c .before .before in
-    let t : ltZ (s .args .number) (pos 0) ≡ false = rw (wide s) at (c .before .if1 .left) in
-    rw (wide s) (stays-above (s .args .number) t, fits-natAbs tt (wide-fits s))
+    let t : ltZ (s .args .number) (pos 0) ≡ false = rw (wide-signed (fits s)) at (c .before .if1 .left) in
+    rw (wide-signed (fits s)) (stays-above (s .args .number) t, fits-natAbs tt (wide-fits (fits s)))
 
 decimal-requires : tie.Need-decimal-requires
 decimal-requires c κs = search needs

@@ -8,9 +8,12 @@ use Rattle.sync_list.proofs.list.SyncList.place.Reads as place-reads
 use Rattle.sync_list.proofs.list.SyncList.row_of.Reads as row-of-reads
 use Rattle.sync_list.proofs.row.Row.with.Reads as with-reads
 use mathlib.Core.Path.{_≡_, sym, ap, _∙_}
-use lib.ListN.{length}
+use mathlib.Core.Bool.{true}
+use Prim.Native.Nat.{_+_}
+use lib.Dec.{leb}
+use lib.ListN.{length, set}
 use Rattle.numbers.proofs.Walk.{length-of-mapped}
-use Rattle.sync_list.specs.Lists.{rowCount, listed, rowIn}
+use Rattle.sync_list.specs.Lists.{rowCount, listed, rowIn, recorded}
 use borrow.Author.Tests.{le-leb}
 use native.Mathlib.Numerals.{add-one}
 use Rattle.sync_list.specs.Rows.{withMeasured}
@@ -31,7 +34,9 @@ place-requires : tie.Need-place-requires
 place-requires c κs = search needs
 
 returns : tie.Need-returns
-returns c = rw (sym (c .before .place .ensures), le-leb _ _ (c .if1 .taken))
+returns c =
+    let full : leb rowCount (c .before .place .result) ≡ true = le-leb _ _ (c .if1 .taken) in
+    rw (sym (c .before .place .ensures), full)
 
 row-of-requires : tie.Need-row-of-requires
 row-of-requires c κs = search needs
@@ -64,9 +69,12 @@ returns-3 c =
     let s = c .before .before .before .before .before .before in
     let p = c .before .before .before .before .before .place in
     let new = not-listed (s .args .self) (long s) (s .args .id) (p .result) (p .ensures) (rw (c .before .listed .ensures) at (c .if2 .left)) in
+    let law : record { rows = set (s .args .self .rows) (p .result) (c .before .before .with .result); count = p .result + 1 }
+    ≡ recorded (s .args .id) (s .args .channel) (s .args .measurement) (s .args .self) =
     rw add-one
     (recorded-new (s .args .self) (long s) (s .args .id) (s .args .channel) (s .args .measurement) (p .result) (c .before .before .with .result)
-    (p .ensures) (new-row (c .before .before)) (c .before .before .before .before .if1 .left) new)
+    (p .ensures) (new-row (c .before .before)) (c .before .before .before .before .if1 .left) new) in
+    law
 
 pub with-spec : {M : Type 1} → statement M
 with-spec =
