@@ -9,7 +9,6 @@ use Rattle.clock.specs.Measuring.{headerIn}
 enum-known-kept : tie.Need-enum-known-kept
 enum-known-kept c = search needs
 
--- /work/main/target/rlib/frame.rlib/interface/lang/src/header.rt:7:137
 enum-told : tie.Need-enum-told
 enum-told c = search needs
 
