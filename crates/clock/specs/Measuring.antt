@@ -9,13 +9,10 @@ use Rattle.refusal.specs.Refusal.{Line, _when_, first, ifAccepted}
 use Rattle.checksum.specs.declared.Channel.{Channel}
 use Rattle.checksum.specs.declared.Channel.the-variants.{A, B}
 use Rattle.frame.specs.declared.header.Header.{Header}
-use Rattle.frame.specs.Read.{noHeader}
 use Rattle.settings.specs.declared.Settings.{Settings}
 use Rattle.settings.specs.Sheet.{decodingCorrection, delayA, delayB, syncIdLimit}
-use Rattle.slot.specs.declared.status.Kept.{Kept}
-use Rattle.slot.specs.declared.status.Kept.the-variants.{Nothing, Frame}
 use Rattle.slot.specs.declared.status.Status.{Status}
-use Rattle.slot.specs.Judging.{placeOf, isStatic, isFrame}
+use Rattle.slot.specs.Judging.{placeOf, isStatic, isFrame, headerKept}
 use Rattle.slot.specs.Sound as slot
 use Rattle.correction.specs.declared.microtick.Microtick.{Microtick}
 use Rattle.correction.specs.Microtick.{aboveTimeLimit}
@@ -30,14 +27,9 @@ use Rattle.clock.specs.Sound.{sound}
 
 -- ---- the frame
 
--- The header of the frame that a status keeps; all zeros where it keeps none.
-abbrev pub headerIn : Kept → Header
-headerIn Nothing = noHeader
-headerIn (Frame h) = h
-
 -- "ID and cycle the kept frame's".
 abbrev pub frameOf : Status → Header
-frameOf status = headerIn (status .kept)
+frameOf status = headerKept (status .kept)
 
 -- 20: "slot status has no valid frame, or its frame isn't a sync frame, or its slot isn't static". A sound status keeps a frame exactly
 -- with "valid". Static is read by the status's settings, and only that.

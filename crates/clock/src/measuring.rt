@@ -9,7 +9,6 @@ use correction::Microtick;
 use correction::SignedMicrotick;
 use frame::Header;
 use settings::Settings;
-use slot::Kept;
 use slot::Status;
 use sync_list::Measurement;
 
@@ -119,10 +118,7 @@ fn frame_of(status: Status) -> Header
     ensures { λ r. ⌜ r ≡ frameOf status ⌝ }
 {
     let kept = status.kept;
-    let Kept::Frame(header) = kept else {
-        return Header::NONE;
-    };
-    header
+    kept.header()
 }
 
 // Refusal 20.

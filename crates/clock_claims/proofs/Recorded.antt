@@ -15,7 +15,7 @@ use Rattle.frame.specs.Refusals.{notAnId}
 use Rattle.slot.specs.declared.status.Kept.{Kept}
 use Rattle.slot.specs.declared.status.Kept.the-variants.{Nothing, Frame}
 use Rattle.slot.specs.declared.status.Status.{Status}
-use Rattle.slot.specs.Judging.{Place, placeOf, isFrame, isReason, firstMiss}
+use Rattle.slot.specs.Judging.{Place, placeOf, isFrame, isReason, firstMiss, headerKept}
 use Rattle.slot.specs.Sound.{couldBeRead, keepsWell}
 use Rattle.slot.specs.Sound as slot
 use Rattle.slot_claims.proofs.Sound.{clauses as status-clauses}
@@ -32,13 +32,13 @@ use Rattle.measurements.proofs.AddingLaws.{recorded-count-known, recorded-count
 use Rattle.clock.specs.declared.state.Clock.{Clock}
 use Rattle.clock.specs.State.{isOdd, listOf, withList}
 use Rattle.clock.specs.Sound.{sound}
-use Rattle.clock.specs.Measuring.{headerIn, frameOf}
+use Rattle.clock.specs.Measuring.{frameOf}
 use Rattle.clock.proofs.SoundLaws.{clauses, sound-by, count-within, rows-good, ids-different}
 use Rattle.clock_claims.specs.Typed.{TypedList}
 
 -- ---- the ID of a frame that a sound status keeps
 
-kept-id : (p : Place) (k : Kept) → keepsWell p k ≡ true → isFrame k ≡ true → notAnId (headerIn k .id .0) ≡ false
+kept-id : (p : Place) (k : Kept) → keepsWell p k ≡ true → isFrame k ≡ true → notAnId (headerKept k .id .0) ≡ false
 kept-id p Nothing e f = absurd (false≢true f)
 kept-id p (Frame h) e f =
     not-true (notAnId (h .id .0)) (both-true (not (notAnId (h .id .0))) _ (both-true (couldBeRead h) (not (isReason (firstMiss p h))) e .0) .0)

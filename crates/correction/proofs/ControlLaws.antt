@@ -1,7 +1,7 @@
 -- Controls and their numbers.
 use Prim.Native.Nat.{ℕ, zero, suc, _*_, _≤_}
 use mathlib.Core.Path.{_≡_, refl, sym, ap}
-use mathlib.Core.Bool.{Bool, true, false, false≢true}
+use mathlib.Core.Bool.{true, false, not, false≢true}
 use native.Mathlib.Omega.{arith}
 use lib.IntN.{ℤ, pos, negsuc, _-ℤ_}
 use Rattle.numbers.proofs.Signed.{signed, up, dn, sub-sums, up-neg, dn-neg}
@@ -9,7 +9,7 @@ use Rattle.correction.specs.declared.external.Control.{Control}
 use Rattle.correction.specs.declared.external.Control.the-variants.{Less, Same, More}
 use Rattle.correction.specs.declared.external.NamedControl.{NamedControl}
 use Rattle.correction.specs.declared.external.NamedControl.the-variants.{Is, NotAControl}
-use Rattle.correction.specs.External.{signOf, controlNamed, notAControl, externalTerm}
+use Rattle.correction.specs.External.{signOf, controlNamed, isControl, notAControl, externalTerm}
 
 pub not-a-control : (n : ℤ) → (n ≡ negsuc 0 → ⊥) → (n ≡ pos 0 → ⊥) → (n ≡ pos 1 → ⊥) → controlNamed n ≡ NotAControl
 not-a-control (pos zero) less same more = absurd (same refl)
@@ -35,16 +35,12 @@ external-small More unit = (omega arith, omega arith)
 
 -- ---- a number and the control that it names
 
-abbrev isNamed : NamedControl → Bool
-isNamed (Is k) = true
-isNamed NotAControl = false
-
 abbrev controlIn : NamedControl → Control
 controlIn (Is k) = k
 controlIn NotAControl = Same
 
 not-is : {k : Control} → NotAControl ≡ Is k → ⊥
-not-is e = false≢true (ap isNamed e)
+not-is e = false≢true (ap isControl e)
 
 is-inj : {j k : Control} → Is j ≡ Is k → j ≡ k
 is-inj e = ap controlIn e
@@ -57,15 +53,7 @@ named-sign (negsuc zero) k e = ap signOf (sym (is-inj e))
 named-sign (negsuc (suc n)) k e = absurd (not-is e)
 
 pub named-control : (n : ℤ) (k : Control) → controlNamed n ≡ Is k → notAControl n ≡ false
-named-control (pos zero) k e = refl
-named-control (pos (suc zero)) k e = refl
-named-control (pos (suc (suc n))) k e = absurd (not-is e)
-named-control (negsuc zero) k e = refl
-named-control (negsuc (suc n)) k e = absurd (not-is e)
+named-control n k e = ap (λ (named : NamedControl). not (isControl named)) e
 
 pub unnamed : (n : ℤ) → controlNamed n ≡ NotAControl → notAControl n ≡ true
-unnamed (pos zero) e = absurd (not-is (sym e))
-unnamed (pos (suc zero)) e = absurd (not-is (sym e))
-unnamed (pos (suc (suc n))) e = refl
-unnamed (negsuc zero) e = absurd (not-is (sym e))
-unnamed (negsuc (suc n)) e = refl
+unnamed n e = ap (λ (named : NamedControl). not (isControl named)) e

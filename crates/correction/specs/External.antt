@@ -1,6 +1,6 @@
 -- The external term (01, "Clock").
 use Prim.Native.Nat.{ℕ, zero, suc}
-use mathlib.Core.Bool.{Bool, true, false}
+use mathlib.Core.Bool.{Bool, true, false, not}
 use lib.IntN.{ℤ, pos, negsuc, negℤ, _+ℤ_, _*ℤ_}
 use Rattle.correction.specs.declared.external.Control.{Control}
 use Rattle.correction.specs.declared.external.Control.the-variants.{Less, Same, More}
@@ -21,13 +21,13 @@ controlNamed (pos (suc (suc n))) = NotAControl
 controlNamed (negsuc zero) = Is Less
 controlNamed (negsuc (suc n)) = NotAControl
 
+abbrev pub isControl : NamedControl → Bool
+isControl (Is control) = true
+isControl NotAControl = false
+
 -- 21, of one of the two controls.
 abbrev pub notAControl : ℤ → Bool
-notAControl (pos zero) = false
-notAControl (pos (suc zero)) = false
-notAControl (pos (suc (suc n))) = true
-notAControl (negsuc zero) = false
-notAControl (negsuc (suc n)) = true
+notAControl number = not (isControl (controlNamed number))
 
 -- "its control times its external unit".
 abbrev pub externalTerm : ℤ → ℕ → ℤ

@@ -143,15 +143,7 @@ fn flags_of(header: Header) -> u64 {
 // Puts the kept switch and the kept frame's fields, zeros where there is none.
 fn put_kept(line: &mut [u8; line::ROOM], at: usize, kept: Kept) -> usize {
     let at = line::decimal(line, at, kept.is_frame() as u64);
-    put_frame(line, at, header_of(kept))
-}
-
-// The kept header, all zeros where there is none.
-fn header_of(kept: Kept) -> Header {
-    let Kept::Frame(header) = kept else {
-        return Header::NONE;
-    };
-    header
+    put_frame(line, at, kept.header())
 }
 
 fn put_frame(line: &mut [u8; line::ROOM], at: usize, header: Header) -> usize {

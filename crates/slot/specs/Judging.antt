@@ -10,7 +10,7 @@ use Rattle.checksum.specs.Channel.{channelOf}
 use Rattle.frame.specs.declared.header.Slot.{Slot}
 use Rattle.frame.specs.declared.header.Cycle.{Cycle}
 use Rattle.frame.specs.declared.header.Header.{Header}
-use Rattle.frame.specs.Read.{headerRead, refusalsOn}
+use Rattle.frame.specs.Read.{noHeader, headerRead, refusalsOn}
 use Rattle.settings.specs.declared.Settings.{Settings}
 use Rattle.settings.specs.Sheet.{staticPayloadWords, staticSlots, noSettings}
 use Rattle.slot.specs.declared.status.Reason.{Reason}
@@ -153,6 +153,11 @@ brings p ownSending = record { arrived = false; refused = false; reason = NoReas
 abbrev pub isFrame : Kept → Bool
 isFrame Nothing = false
 isFrame (Frame h) = true
+
+-- The header of the kept frame; all zeros where there is none.
+abbrev pub headerKept : Kept → Header
+headerKept Nothing = noHeader
+headerKept (Frame header) = header
 
 -- "keeps the first reason".
 abbrev pub firstReason : Reason → Reason → Reason

@@ -1,6 +1,6 @@
 // What is known of a slot: how it was opened, and what happened in it.
 ghost use mathlib.Core.Path.{_≡_};
-ghost use Rattle.slot.specs.Judging.{fresh as Judging·fresh, noStatus, isReason, isFrame, firstReason, firstKept, hasArrival};
+ghost use Rattle.slot.specs.Judging.{fresh as Judging·fresh, noStatus, isReason, isFrame, headerKept, firstReason, firstKept, hasArrival};
 use checksum::Channel;
 use frame::Cycle;
 use frame::Header;
@@ -79,6 +79,16 @@ impl Kept {
             Kept::Nothing => false,
             Kept::Frame(_) => true,
         }
+    }
+
+    // The header of the kept frame; all zeros where there is none.
+    pub fn header(self) -> Header
+        ensures { λ r. ⌜ r ≡ headerKept self ⌝ }
+    {
+        let Kept::Frame(header) = self else {
+            return Header::NONE;
+        };
+        header
     }
 
     // The frame that is kept beside one that comes later.
