@@ -7,13 +7,13 @@ use Prim.Native.Nat.{_<_, _^_}
 use mathlib.Core.Path.{_≡_}
 use mathlib.Core.Bool.{true, false}
 use native.Mathlib.Omega.{arith}
-use lib.IntN.{pos, negℤ, _+ℤ_, _-ℤ_, +ℤ-idl}
+use lib.IntN.{pos, negℤ, _+ℤ_, _-ℤ_}
 use lib.Signed.{ltZ}
 use mir.Syntax.{w32}
 use mir.Val.{SFits}
 use mir.Facts.{toZ-ofZ}
 use Rattle.numbers.proofs.Signed.{signed, add-sum, sub-sums, up-neg, dn-neg}
-use Rattle.numbers.proofs.Wide.{wide-unsigned, wide-asked, wide-signed, wide-negated, wide-fits}
+use Rattle.numbers.proofs.Wide.{wide-unsigned, wide-asked, wide-signed, wide-negated, wide-above, wide-below, wide-fits}
 
 x-fits : (c : tie.Start) → SFits w32 (c .args .x .0)
 x-fits c = search needs
@@ -23,24 +23,16 @@ d-small c = omega arith
 
 -- what each test showed
 over : (c : tie.Then1) → ltZ (pos (c .before .before .before .args .d)) (c .before .before .before .args .x .0) ≡ true
-over c =
-    let s = c .before .before .before in
-    rw (wide-unsigned _ (d-small s), wide-signed (x-fits s)) at (c .if1 .taken)
+over c = let s = c .before .before .before in wide-above (x-fits s) (s .args .d) (d-small s) (c .if1 .taken)
 
 not-over : (c : tie.Else1) → ltZ (pos (c .before .before .before .args .d)) (c .before .before .before .args .x .0) ≡ false
-not-over c =
-    let s = c .before .before .before in
-    rw (wide-unsigned _ (d-small s), wide-signed (x-fits s)) at (c .if1 .left)
+not-over c = let s = c .before .before .before in wide-above (x-fits s) (s .args .d) (d-small s) (c .if1 .left)
 
 under : (c : tie.Then2) → ltZ (c .before .before .before .before .args .x .0) (negℤ (pos (c .before .before .before .before .args .d))) ≡ true
-under c =
-    let s = c .before .before .before .before in
-    rw (wide-signed (x-fits s), wide-unsigned _ (d-small s), toZ-ofZ (wide-negated _ (d-small s)), +ℤ-idl) at (c .if2 .taken)
+under c = let s = c .before .before .before .before in wide-below (x-fits s) (s .args .d) (d-small s) (c .if2 .taken)
 
 not-under : (c : tie.Else2) → ltZ (c .before .before .before .before .args .x .0) (negℤ (pos (c .before .before .before .before .args .d))) ≡ false
-not-under c =
-    let s = c .before .before .before .before in
-    rw (wide-signed (x-fits s), wide-unsigned _ (d-small s), toZ-ofZ (wide-negated _ (d-small s)), +ℤ-idl) at (c .if2 .left)
+not-under c = let s = c .before .before .before .before in wide-below (x-fits s) (s .args .d) (d-small s) (c .if2 .left)
 
 -- a number that is brought toward zero fits where it fitted
 less-fits : (c : tie.Then1) → SFits w32 (c .before .before .before .args .x .0 -ℤ pos (c .before .before .before .args .d))

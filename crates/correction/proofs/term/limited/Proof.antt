@@ -7,13 +7,13 @@ use Prim.Native.Nat.{_<_, _^_}
 use mathlib.Core.Path.{_≡_}
 use mathlib.Core.Bool.{true, false}
 use native.Mathlib.Omega.{arith}
-use lib.IntN.{pos, negℤ, _+ℤ_, _-ℤ_, +ℤ-idl}
+use lib.IntN.{pos, negℤ, _+ℤ_, +ℤ-idl}
 use lib.Signed.{ltZ}
-use mir.Syntax.{w32, w64}
-use mir.Val.{SFits, toZ, ofZ}
+use mir.Syntax.{w32}
+use mir.Val.{SFits}
 use mir.Facts.{toZ-ofZ}
 use Rattle.numbers.proofs.Signed.{signed, up-neg, dn-neg}
-use Rattle.numbers.proofs.Wide.{wide-unsigned, wide-asked, wide-signed, wide-negated}
+use Rattle.numbers.proofs.Wide.{wide-unsigned, wide-asked, wide-negated, wide-above, wide-below}
 
 x-fits : (c : tie.Start) → SFits w32 (c .args .x .0)
 x-fits c = search needs
@@ -23,26 +23,16 @@ limit-small c = omega arith
 
 -- what each test showed
 over : (c : tie.Then1) → ltZ (pos (c .before .before .before .args .limit)) (c .before .before .before .args .x .0) ≡ true
-over c =
-    let s = c .before .before .before in
-    rw (wide-unsigned _ (limit-small s), wide-signed (x-fits s)) at (c .if1 .taken)
+over c = let s = c .before .before .before in wide-above (x-fits s) (s .args .limit) (limit-small s) (c .if1 .taken)
 
 not-over : (c : tie.Else1) → ltZ (pos (c .before .before .before .args .limit)) (c .before .before .before .args .x .0) ≡ false
-not-over c =
-    let s = c .before .before .before in
-    rw (wide-unsigned _ (limit-small s), wide-signed (x-fits s)) at (c .if1 .left)
+not-over c = let s = c .before .before .before in wide-above (x-fits s) (s .args .limit) (limit-small s) (c .if1 .left)
 
 under : (c : tie.Then2) → ltZ (c .before .before .before .before .args .x .0) (negℤ (pos (c .before .before .before .before .args .limit))) ≡ true
-under c =
-    let s = c .before .before .before .before in
-    let told : ltZ (s .args .x .0) (toZ w64 (ofZ w64 (pos 0 -ℤ pos (s .args .limit)))) ≡ true = rw (wide-signed (x-fits s), wide-unsigned _ (limit-small s)) at (c .if2 .taken) in
-    rw (toZ-ofZ (wide-negated _ (limit-small s)), +ℤ-idl) at told
+under c = let s = c .before .before .before .before in wide-below (x-fits s) (s .args .limit) (limit-small s) (c .if2 .taken)
 
 not-under : (c : tie.Else2) → ltZ (c .before .before .before .before .args .x .0) (negℤ (pos (c .before .before .before .before .args .limit))) ≡ false
-not-under c =
-    let s = c .before .before .before .before in
-    let told : ltZ (s .args .x .0) (toZ w64 (ofZ w64 (pos 0 -ℤ pos (s .args .limit)))) ≡ false = rw (wide-signed (x-fits s), wide-unsigned _ (limit-small s)) at (c .if2 .left) in
-    rw (toZ-ofZ (wide-negated _ (limit-small s)), +ℤ-idl) at told
+not-under c = let s = c .before .before .before .before in wide-below (x-fits s) (s .args .limit) (limit-small s) (c .if2 .left)
 
 -- a limit that a number lies outside of fits where the number fits
 highest-fits : (c : tie.Then1) → SFits w32 (pos (c .before .before .before .args .limit))

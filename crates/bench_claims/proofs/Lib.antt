@@ -1,0 +1,4 @@
+pub mod DecimalLaws
+pub mod Decimal
+pub mod Line
+pub mod Witnesses

@@ -1,0 +1,112 @@
+-- The claims about the bench program's line.
+use Prim.Native.Nat.{ℕ, zero, suc, _+_, _-_, _^_, _<_, _≤_}
+use mathlib.Core.Path.{_≡_, refl, sym, ap, _∙_}
+use mathlib.Core.Bool.{Bool, true, false, cond, _&&_}
+use mathlib.Core.List.{List, [], _∷_, _++_}
+use native.Mathlib.Nat.{pow-le-pow-right}
+use native.Mathlib.Omega.{arith}
+use lib.Dec.{leb, lit<}
+use lib.ListN.{length, take, drop, length-append, length-take}
+use lib.Seq.{length-take-le, take-all}
+use borrow.Author.Tests.{le-ltb, lt-ltb, leb-true, leb-false}
+use Rattle.numbers.proofs.Truth.{both-true}
+use Rattle.numbers.proofs.Walk.{cases}
+use Rattle.refusal.specs.Refusal.{Line, _when_, first}
+use Rattle.refusal.proofs.FirstLaws.{first-skip, first-here}
+use Rattle.division.specs.Bits.{odd, number, bytesBits}
+use Rattle.division.proofs.BitsLaws.{number-lt}
+use Rattle.checksum.specs.Channel.{notAChannel, channelOf}
+use Rattle.frame.specs.declared.header.Header.{Header}
+use Rattle.frame.specs.Refusals.{tooShort, badSize}
+use Rattle.frame.specs.Read.{field, headerIn, headerRead, refusals, refusalsOn, rule}
+use Rattle.bench_line.specs.Line.{refusalOf, acceptedWord, refusedWord, behindSpace, lineFeed, acceptedLine, refusedLine, lineBy, lineOf}
+use Rattle.bench_claims.specs.Line.{LineOne, NoInput, TooLong, FrontDecides, AtMost21}
+use Rattle.bench_claims.proofs.DecimalLaws.{decimal-short}
+
+pub line-one : LineOne
+line-one input before after after′ size size′ s s′ = (s .answers ∙ sym (s′ .answers), s .writes ∙ sym (s′ .writes))
+
+pub no-input : NoInput
+no-input = refl
+
+-- ---- an input that is too long
+
+long-refusal : (channel : ℕ) (bytes : List ℕ) → 262 < length bytes → first (refusals channel bytes) ≡ cond (notAChannel channel) 1 3
+long-refusal channel bytes h =
+    let long : tooShort bytes ≡ false = le-ltb (length bytes) 8 (omega arith) in
+    let bad : badSize bytes ≡ true = cases (odd (length bytes)) (λ t. rw t refl) (λ t. rw (t, lt-ltb 262 (length bytes) h) refl) in
+    cases (notAChannel channel)
+    (λ t. first-here 1 (refusalsOn (channelOf channel) bytes) t ∙ rw t refl)
+    (λ t. first-skip 1 (refusalsOn (channelOf channel) bytes) t ∙ first-skip 2 _ long ∙ first-here 3 _ bad ∙ rw t refl)
+
+pub too-long : TooLong
+too-long channel bytes h =
+    let e = long-refusal channel bytes h in
+    cases (notAChannel channel)
+    (λ t. rw (e, t) refl)
+    (λ t. rw (e, t) refl)
+
+pub front-decides : FrontDecides
+front-decides [] = refl
+front-decides (channel ∷ bytes) =
+    cases (leb (length bytes) 262)
+    (λ t. let short = leb-true (length bytes) 262 t in ap lineOf (take-all 264 (channel ∷ bytes) (omega arith)))
+    (λ t.
+    let long = leb-false (length bytes) 262 t in
+    let cut : length (take 263 bytes) ≡ 263 = length-take-le 263 bytes (omega arith) in
+    too-long channel (take 263 bytes) (omega arith) ∙ sym (too-long channel bytes long))
+
+-- ---- the longest line
+
+-- No line of an order has a number above m.
+unfoldable noneAbove : ℕ → List Line → Bool
+noneAbove m [] = true
+noneAbove m (n when c ∷ l) = leb n m && noneAbove m l
+
+first-within : (m : ℕ) (l : List Line) → noneAbove m l ≡ true → first l ≤ m
+unfolding first noneAbove
+first-within m [] e = omega arith
+first-within m (n when true ∷ l) e = leb-true n m (both-true (leb n m) (noneAbove m l) e .0)
+first-within m (n when false ∷ l) e = first-within m l (both-true (leb n m) (noneAbove m l) e .1)
+
+refusal-within : (input : List ℕ) → refusalOf input ≤ 8
+unfolding noneAbove
+refusal-within [] = omega arith
+refusal-within (channel ∷ bytes) = first-within 8 (refusals channel bytes) refl
+
+field-small : (place width : ℕ) (x : List Bool) → field place width x < 2 ^ width
+field-small place width x =
+    let l = take width (drop place x) in
+    let few : length l ≤ width = omega (arith, length-take width (drop place x)) in
+    let wide : 2 ^ length l ≤ 2 ^ width = pow-le-pow-right {n = 2} (lit< tt) {i = length l} {j = width} few in
+    omega (arith, number-lt l)
+
+accepted-short : (h : Header) → h .id .0 < 2 ^ 11 → h .cycle .0 < 2 ^ 6 → h .words < 2 ^ 7 → length (acceptedLine h) ≤ 21
+accepted-short h i c w =
+    let id = behindSpace (h .id .0) in
+    let cycle = behindSpace (h .cycle .0) in
+    let words = behindSpace (h .words) in
+    omega (
+      arith,
+      length-append (acceptedWord ++ id ++ cycle ++ words) lineFeed,
+      length-append (acceptedWord ++ id ++ cycle) words,
+      length-append (acceptedWord ++ id) cycle,
+      length-append acceptedWord id,
+      decimal-short 3 (h .id .0) (omega arith),
+      decimal-short 1 (h .cycle .0) (omega arith),
+      decimal-short 2 (h .words) (omega arith),
+    )
+
+refused-short : (n : ℕ) → n < 10 → length (refusedLine n) ≤ 21
+refused-short n h =
+    omega (arith, length-append (refusedWord ++ behindSpace n) lineFeed, length-append refusedWord (behindSpace n), decimal-short 0 n h)
+
+line-short : (n : ℕ) (bytes : List ℕ) → n ≤ 8 → length (lineBy (rule n bytes)) ≤ 21
+unfolding headerIn
+line-short zero bytes h =
+    let x = bytesBits bytes in
+    accepted-short (headerRead bytes) (field-small 5 11 x) (field-small (5 + 11 + 7 + 11) 6 x) (field-small (5 + 11) 7 x)
+line-short (suc n) bytes h = refused-short (suc n) (omega arith)
+
+pub at-most-21 : AtMost21
+at-most-21 input = line-short (refusalOf input) (drop 1 input) (refusal-within input)

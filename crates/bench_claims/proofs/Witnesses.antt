@@ -1,0 +1,36 @@
+-- What the witnesses promise, from any result that the statement of `bench_line::line` allows.
+use Prim.Native.Nat.{ℕ, zero, suc, _<_}
+use mathlib.Core.Path.{_≡_, ap, _∙_}
+use mathlib.Core.Bool.{Bool, true, cond}
+use mathlib.Core.List.{List, _++_}
+use native.Mathlib.Omega.{arith}
+use lib.Dec.{ltb}
+use lib.ListN.{length, take, drop, length-append}
+use borrow.Author.Tests.{le-ltb, lt-ltb}
+use Rattle.frame.specs.Read.{headerRead, rule}
+use Rattle.frame.specs.Write.{over}
+use Rattle.bench_line.specs.Line.{refusalOf, acceptedWord, refusedWord, behindSpace, lineFeed, lineBy, lineOf, LineSays}
+use Rattle.bench_claims.proofs.Line.{front-decides, at-most-21}
+
+pub says-by-front : (input before after : List ℕ) (size : ℕ) → LineSays (take 264 input) before after size → LineSays input before after size
+says-by-front input before after size s =
+    let e = front-decides input in
+    record {
+      answers = s .answers ∙ ap (λ (l : List ℕ). cond (ltb (length before) (length l)) 0 (length l)) e;
+      writes = s .writes ∙ ap (λ (l : List ℕ). cond (ltb (length before) (length l)) before (over l before)) e;
+    }
+
+-- a line has at least its line feed
+line-some : (n : ℕ) (bytes : List ℕ) → 0 < length (lineBy (rule n bytes))
+line-some zero bytes =
+    let h = headerRead bytes in
+    omega
+    (arith, length-append (acceptedWord ++ behindSpace (h .id .0) ++ behindSpace (h .cycle .0) ++ behindSpace (h .words)) lineFeed)
+line-some (suc n) bytes = omega (arith, length-append (refusedWord ++ behindSpace (suc n)) lineFeed)
+
+pub room-for-any : (input before after : List ℕ) (size : ℕ) → length before ≡ 21 → LineSays input before after size → ltb 0 size ≡ true
+room-for-any input before after size long s =
+    let room = le-ltb (length before) (length (lineOf input)) (omega (arith, at-most-21 input)) in
+    let e : size ≡ length (lineOf input) = s .answers ∙ ap (λ (b : Bool). cond b 0 (length (lineOf input))) room in
+    let some = line-some (refusalOf input) (drop 1 input) in
+    lt-ltb 0 size (omega arith)

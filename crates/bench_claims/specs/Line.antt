@@ -1,0 +1,32 @@
+-- Claims about the bench program's line, of any result that the statement of `bench_line::line` allows and of the rule that it cites.
+use Prim.Native.Nat.{ℕ, _≤_, _<_}
+use mathlib.Core.Path.{_≡_}
+use mathlib.Core.Bool.{cond}
+use mathlib.Core.List.{List, [], _∷_}
+use lib.ListN.{length, take}
+use Rattle.checksum.specs.Channel.{notAChannel}
+use Rattle.bench_line.specs.Line.{refusedLine, lineOf, LineSays}
+
+-- Any two results that the statement allows are equal: the size and the whole output.
+abbrev pub LineOne : Type 0
+LineOne =
+    (input before after after′ : List ℕ) (size size′ : ℕ)
+    → LineSays input before after size → LineSays input before after′ size′
+    → (size ≡ size′) × (after ≡ after′)
+
+-- "No input counts as 1."
+abbrev pub NoInput : Type 0
+NoInput = lineOf [] ≡ refusedLine 1
+
+-- "More than 263 input bytes: the channel is tested first, then refused 3."
+abbrev pub TooLong : Type 0
+TooLong =
+    (channel : ℕ) (bytes : List ℕ) → 262 < length bytes → lineOf (channel ∷ bytes) ≡ refusedLine (cond (notAChannel channel) 1 3)
+
+-- So what lies behind the first 264 bytes changes no line, and a program may leave it unread.
+abbrev pub FrontDecides : Type 0
+FrontDecides = (input : List ℕ) → lineOf (take 264 input) ≡ lineOf input
+
+-- The longest line is `accepted 2047 63 127` with its line feed.
+abbrev pub AtMost21 : Type 0
+AtMost21 = (input : List ℕ) → length (lineOf input) ≤ 21

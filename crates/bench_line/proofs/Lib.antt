@@ -1,0 +1,3 @@
+mod PuttingLaws
+mod DecimalLaws
+mod LineLaws

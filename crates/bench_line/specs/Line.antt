@@ -1,0 +1,71 @@
+-- The line of the bench program: "The bench program reads a channel byte and frame bytes and writes one line".
+use Prim.Native.Nat.{ℕ}
+use mathlib.Core.Path.{_≡_}
+use mathlib.Core.Bool.{Bool, cond}
+use mathlib.Core.List.{List, [], _∷_, _++_}
+use lib.ListN.{length, drop}
+use lib.Dec.{ltb}
+use Rattle.refusal.specs.Refusal.{first, ifAccepted}
+use Rattle.frame.specs.declared.header.Header.{Header}
+use Rattle.frame.specs.declared.reader.Reading.{Reading}
+use Rattle.frame.specs.Read.{Told, told, refusals, rule}
+use Rattle.frame.specs.Write.{over}
+use Rattle.bench_line.specs.Decimal.{decimal}
+
+-- ---- the input
+
+-- The refusal of an input, 0 for none: that of reading the bytes behind the first on the channel that the first one names. "No input
+-- counts as 1."
+abbrev pub refusalOf : List ℕ → ℕ
+refusalOf [] = 1
+refusalOf (channel ∷ bytes) = first (refusals channel bytes)
+
+-- What is right to say of an input: its refusal and its header, as reading says them.
+abbrev pub readInput : List ℕ → Told
+readInput input = rule (refusalOf input) (drop 1 input)
+
+-- ---- the line
+
+-- The words, as the codes of their characters.
+abbrev pub acceptedWord : List ℕ
+acceptedWord = 97 ∷ 99 ∷ 99 ∷ 101 ∷ 112 ∷ 116 ∷ 101 ∷ 100 ∷ []
+
+abbrev pub refusedWord : List ℕ
+refusedWord = 114 ∷ 101 ∷ 102 ∷ 117 ∷ 115 ∷ 101 ∷ 100 ∷ []
+
+-- A space with a number behind it, and the line feed.
+abbrev pub behindSpace : ℕ → List ℕ
+behindSpace n = 32 ∷ decimal n
+
+abbrev pub lineFeed : List ℕ
+lineFeed = 10 ∷ []
+
+-- "accepted ID CYCLE WORDS"
+abbrev pub acceptedLine : Header → List ℕ
+acceptedLine h = acceptedWord ++ behindSpace (h .id .0) ++ behindSpace (h .cycle .0) ++ behindSpace (h .words) ++ lineFeed
+
+-- "refused N"
+abbrev pub refusedLine : ℕ → List ℕ
+refusedLine n = refusedWord ++ behindSpace n ++ lineFeed
+
+abbrev pub lineBy : Told → List ℕ
+lineBy t = ifAccepted (t .number) (acceptedLine (t .header)) (refusedLine (t .number))
+
+abbrev pub lineOf : List ℕ → List ℕ
+lineOf input = lineBy (readInput input)
+
+-- ---- the statement
+
+-- The output is too short for the line.
+abbrev pub noRoom : List ℕ → List ℕ → Bool
+noRoom input output = ltb (length output) (length (lineOf input))
+
+-- What reading the input answers.
+abbrev pub ReadingOfInput : List ℕ → Reading → Type 0
+ReadingOfInput input answer = told answer ≡ readInput input
+
+-- The line's size comes back, and the line lies over the front of the output; bytes behind it stay. Output that is too short stays as it
+-- was, and the size is 0.
+pub record LineSays (input before after : List ℕ) (size : ℕ) : Type 0 where
+  pub answers : size ≡ cond (noRoom input before) 0 (length (lineOf input))
+  pub writes : after ≡ cond (noRoom input before) before (over (lineOf input) before)

@@ -1,0 +1,97 @@
+// The line that the bench program writes (document 01, "Numbers to check against").
+//
+// Entry: `line` on the program's input, a channel byte and frame bytes, and lent output. The program `bench` reads and writes;
+// everything that decides stands here and in `frame`.
+ghost use mathlib.Core.Path.{_≡_};
+ghost use Prim.Native.Nat.{_+_, _≤_};
+ghost use lib.ListN.{length};
+ghost use Rattle.frame.specs.Read.{told};
+ghost use Rattle.bench_line.specs.Line.{behindSpace, acceptedLine, refusedLine, lineBy, ReadingOfInput, LineSays};
+ghost use Rattle.bench_line.specs.Putting.{Puts};
+use frame::Header;
+use frame::Reading;
+
+// The longest line, `accepted 2047 63 127` and its line feed. Output of this size takes every line.
+pub const LONGEST: usize = 21;
+
+// Room for a word, three numbers of any size and a line feed.
+const ROOM: usize = 72;
+
+// Puts the line for this input at the front of the output, and answers its size. Output that is too short for it stays as it is,
+// with 0.
+pub fn line(input: &[u8], output: &mut [u8]) -> usize
+    ensures { λ r. ⌜ LineSays (now (input .entry)) (now (output .entry)) (now (output .exit)) r ⌝ }
+    ensures { λ r. ⌜ r ≤ length (now (output .entry)) ⌝ }
+{
+    let mut space = [0u8; ROOM];
+    let size = put_line(&mut space[..], read_input(input));
+    if output.len() < size {
+        return 0;
+    }
+    bytes::copy(&space[0..size], output)
+}
+
+// Reads the frame behind the channel byte. No input names no channel.
+fn read_input(input: &[u8]) -> Reading
+    ensures { λ r. ⌜ ReadingOfInput (now (input .entry)) r ⌝ }
+{
+    if input.len() == 0 {
+        return Reading::NotAChannel;
+    }
+    frame::read(input[0], &input[1..])
+}
+
+// `accepted ID CYCLE WORDS` or `refused N`, and the line feed.
+fn put_line(line: &mut [u8], reading: Reading) -> usize
+    requires { ⌜ length (now line) ≡ 72 ⌝ }
+    ensures { λ r. ⌜ Puts (lineBy (told reading)) 0 r (now (line .entry)) (now (line .exit)) ⌝ }
+    ensures { λ r. ⌜ r ≤ 72 ⌝ }
+{
+    let number = reading.number();
+    if number != 0 {
+        return put_refused(line, number);
+    }
+    put_accepted(line, reading.header())
+}
+
+fn put_refused(line: &mut [u8], number: u8) -> usize
+    requires { ⌜ length (now line) ≡ 72 ⌝ }
+    ensures { λ r. ⌜ Puts (refusedLine number) 0 r (now (line .entry)) (now (line .exit)) ⌝ }
+    ensures { λ r. ⌜ r ≤ 72 ⌝ }
+{
+    let at = put(line, 0, b"refused");
+    let at = put_decimal(line, at, number as u64);
+    put(line, at, b"\n")
+}
+
+fn put_accepted(line: &mut [u8], header: Header) -> usize
+    requires { ⌜ length (now line) ≡ 72 ⌝ }
+    ensures { λ r. ⌜ Puts (acceptedLine header) 0 r (now (line .entry)) (now (line .exit)) ⌝ }
+    ensures { λ r. ⌜ r ≤ 72 ⌝ }
+{
+    let at = put(line, 0, b"accepted");
+    let at = put_decimal(line, at, header.id.0 as u64);
+    let at = put_decimal(line, at, header.cycle.0 as u64);
+    let at = put_decimal(line, at, header.words as u64);
+    put(line, at, b"\n")
+}
+
+// Puts a space and the number behind what stands before `at`, and answers where it ends.
+fn put_decimal(line: &mut [u8], at: usize, number: u64) -> usize
+    requires { ⌜ at + 21 ≤ length (now line) ⌝ }
+    ensures { λ r. ⌜ Puts (behindSpace number) at r (now (line .entry)) (now (line .exit)) ⌝ }
+    ensures { λ r. ⌜ r ≤ at + 21 ⌝ }
+{
+    let mut digits = [0u8; 20];
+    let count = io::decimal(number, &mut digits);
+    let at = put(line, at, b" ");
+    put(line, at, &digits[0..count])
+}
+
+// Puts text behind what stands before `at`, and answers where it ends.
+fn put(line: &mut [u8], at: usize, text: &[u8]) -> usize
+    requires { ⌜ at + length (now text) ≤ length (now line) ⌝ }
+    ensures { λ r. ⌜ Puts (now (text .entry)) at r (now (line .entry)) (now (line .exit)) ⌝ }
+{
+    at + bytes::copy(text, &mut line[at..])
+}
