@@ -1,5 +1,6 @@
 //! What each command is answered, and the line written for it.
 
+use crate::bench;
 use crate::clock::{self, ClockState, Times};
 use crate::clock_numbers::ClockNumbers;
 use crate::closing::{Closing, Controls};
@@ -25,6 +26,7 @@ pub enum Answer {
     Checksum(Result<u32, Refusal>),
     Read(Result<Fields, Refusal>, Vec<u8>),
     Write(Result<usize, Refusal>, Vec<u8>),
+    Bench(Result<Fields, Refusal>),
     /// With the number of the first field out of range, or 0.
     Opened(Result<(), Refusal>, usize),
     Event(Result<(), Refusal>),
@@ -45,6 +47,7 @@ impl Answer {
             Command::Checksum(given) => Answer::Checksum(frame::frame_checksum(given.channel, &given.bytes)),
             Command::Read(given) => answer_to_read(given),
             Command::Write(write) => answer_to_write(write),
+            Command::Bench(input) => Answer::Bench(bench::read(input)),
             Command::OpenSlot(opening) => answer_to_opening(opening, &mut held.status),
             Command::Arrived(bytes) => answer_to_event(&Event::Arrived(bytes), &mut held.status),
             Command::Boundary => answer_to_event(&Event::Boundary, &mut held.status),
@@ -62,7 +65,7 @@ impl Answer {
     pub fn refusal(&self) -> Option<Refusal> {
         match self {
             Answer::Checksum(answer) => answer.err(),
-            Answer::Read(answer, _) => answer.err(),
+            Answer::Read(answer, _) | Answer::Bench(answer) => answer.err(),
             Answer::Write(answer, _) => answer.err(),
             Answer::Opened(answer, _) | Answer::Event(answer) => answer.err(),
             Answer::Loaded(answer, _) | Answer::CycleOpened(answer) => answer.err(),
@@ -85,6 +88,7 @@ impl Answer {
             Answer::Read(Ok(fields), payload) => format!("read 0 {} {}", field_numbers(fields), hex(payload)),
             Answer::Read(Err(_), payload) => format!("read {number} {}", hex(payload)),
             Answer::Write(answer, output) => format!("write {number} {} {}", answer.unwrap_or(0), hex(output)),
+            Answer::Bench(answer) => bench::line(answer),
             Answer::Opened(_, field) => format!("slot {number} {field}"),
             Answer::Event(_) => format!("event {number}"),
             Answer::StatusPut => "status put".to_string(),

@@ -1,11 +1,14 @@
 //! The listed cases, subject by subject.
 
+mod bench;
 mod borders;
 mod checksums;
 pub mod clock;
 mod damage;
 mod histories;
 mod listed;
+mod listed_frames;
+mod listed_slots;
 mod misses;
 mod openings;
 mod reading;
@@ -21,6 +24,10 @@ use crate::plan::{Expected, Plan};
 use crate::random::Random;
 use crate::script::Command;
 
+pub use bench::NUMBERS as BENCH_NUMBERS;
+pub use listed_frames::NUMBERS as FRAME_NUMBERS;
+pub use listed_slots::NUMBERS as SLOT_NUMBERS;
+
 /// Fixed, so that the script is the same at every run.
 const SEED: u64 = 0x01_0019_0262;
 
@@ -32,15 +39,18 @@ pub fn all() -> Plan {
     let mut random = Random::from_seed(SEED);
     let mut plan = Plan::default();
     listed::add(&mut plan, &mut random);
+    listed_frames::add(&mut plan, &mut random);
     checksums::add(&mut plan, &mut random);
     sizes::add(&mut plan, &mut random);
     reading::add(&mut plan, &mut random);
     damage::add(&mut plan, &mut random);
     writing::add(&mut plan, &mut random);
     round_trips::add(&mut plan, &mut random);
+    bench::add(&mut plan, &mut random);
     add_mixture(&mut plan, &mut random);
     // Behind everything about frames alone, whose commands keep their places; the first of these finds no slot opened.
     histories::add(&mut plan, &mut random);
+    listed_slots::add(&mut plan);
     misses::add(&mut plan, &mut random);
     borders::add(&mut plan, &mut random);
     openings::add(&mut plan, &mut random);

@@ -11,7 +11,27 @@ pub const HEADER: Polynomial = Polynomial(&[11, 9, 8, 7, 2, 0]);
 /// 01 "Frame layout", frame checksum.
 pub const FRAME: Polynomial = Polynomial(&[24, 22, 20, 19, 18, 16, 14, 13, 11, 10, 8, 7, 6, 3, 1, 0]);
 
+/// The factors of both, which can't be taken apart any further (002 4.2.8 and 4.4).
+pub const HEADER_FACTORS: [Polynomial; 3] = [Polynomial(&[1, 0]), Polynomial(&[5, 3, 0]), Polynomial(&[5, 4, 3, 1, 0])];
+
+pub const FRAME_FACTORS: [Polynomial; 4] = [
+    Polynomial(&[1, 0]),
+    Polynomial(&[1, 0]),
+    Polynomial(&[11, 9, 8, 7, 5, 3, 2, 1, 0]),
+    Polynomial(&[11, 9, 8, 7, 6, 3, 0]),
+];
+
+/// Factors multiplied out, the lowest bit of the number standing for the term 1.
+pub fn product(factors: &[Polynomial]) -> u32 {
+    factors.iter().fold(1, |number, factor| factor.times(number))
+}
+
 impl Polynomial {
+    /// Terms that come twice cancel out.
+    fn times(&self, number: u32) -> u32 {
+        self.0.iter().fold(0, |sum, exponent| sum ^ number << exponent)
+    }
+
     fn width(&self) -> usize {
         self.0[0]
     }
@@ -71,6 +91,29 @@ mod tests {
         assert_eq!(FRAME.checksum(0xABCDEF, &bits::of_bytes(CHECK)), 0x1F23B8);
         // The published 11-bit check value is over nine bytes with the same start value.
         assert_eq!(HEADER.checksum(0x01A, &bits::of_bytes(CHECK)), 0x5A3);
+    }
+
+    #[test]
+    fn factors_multiply_out() {
+        assert_eq!(product(&[]), 1);
+        assert_eq!((product(&HEADER_FACTORS), product(&[HEADER])), (0xB85, 0xB85));
+        assert_eq!((product(&FRAME_FACTORS), product(&[FRAME])), (0x15D6DCB, 0x15D6DCB));
+    }
+
+    /// No polynomial of at most half the degree divides one of the factors.
+    #[test]
+    fn factors_have_no_factors() {
+        for factor in HEADER_FACTORS.iter().chain(&FRAME_FACTORS) {
+            let divisors = (2..1 << (factor.width() / 2 + 1)).filter(|divisor| divides(*divisor, factor.times(1)));
+            assert_eq!(divisors.count(), 0);
+        }
+    }
+
+    fn divides(divisor: u32, mut number: u32) -> bool {
+        while number.checked_ilog2() >= divisor.checked_ilog2() {
+            number ^= divisor << (number.ilog2() - divisor.ilog2());
+        }
+        number == 0
     }
 
     #[test]

@@ -1,6 +1,7 @@
 //! What a clock command was put in for, where the command alone doesn't show it.
 
 use crate::channel::Channel;
+use crate::frame::HIGHEST_CYCLE;
 use crate::refusal::Refusal;
 
 /// What makes a clock state unsound by 01 "Refusal numbers" and by REPLAY.md on rows. A list is 0 (even) or 1 (odd).
@@ -46,6 +47,15 @@ pub enum Last {
 
 impl Last {
     pub const ALL: [Last; 4] = [Last::None, Last::Before, Last::Same, Last::Other];
+
+    pub fn of(closed: Option<u8>, cycle: u8) -> Last {
+        match closed {
+            None => Last::None,
+            Some(closed) if closed == cycle => Last::Same,
+            Some(closed) if closed == (cycle + HIGHEST_CYCLE) % (HIGHEST_CYCLE + 1) => Last::Before,
+            Some(_) => Last::Other,
+        }
+    }
 }
 
 #[derive(Clone, Copy, Debug, PartialEq, Eq, PartialOrd, Ord)]
@@ -82,6 +92,7 @@ pub enum ClockNote {
     UnlookedDeviation(Channel),
     /// A count as put that is shown so, above fifteen or not, with rows behind it that are not listed.
     CountShown(u8),
+    /// A number from 01 or from the papers beside it, by a name for what it shows.
     Number01(&'static str),
     Refused(char, Refusal),
 }

@@ -32,6 +32,16 @@ impl Found {
     pub fn is_limited(&self) -> bool {
         self.within_limit() != self.term
     }
+
+    /// What the term would be if so many values were discarded at each end, where that leaves any.
+    pub fn if_discarded(&self, ends: usize) -> Option<i64> {
+        if self.values.len() <= 2 * ends {
+            return None;
+        }
+        let difference = halved(sum_of_left(&self.values, ends)) - midpoint(&self.values);
+        let term = damped(self.undamped + difference, self.damping);
+        Some(term.clamp(-self.limit, self.limit))
+    }
 }
 
 /// How many of n values are discarded at each end.
@@ -49,9 +59,12 @@ pub fn midpoint(values: &[i64]) -> i64 {
 
 /// The sum of the smallest and largest value left, which are one if there is only one.
 pub fn sum_of_ends(values: &[i64]) -> i64 {
+    sum_of_left(values, discarded(values.len()))
+}
+
+fn sum_of_left(values: &[i64], ends: usize) -> i64 {
     let mut sorted = values.to_vec();
     sorted.sort_unstable();
-    let ends = discarded(sorted.len());
     let left = &sorted[ends..sorted.len() - ends];
     left[0] + left[left.len() - 1]
 }
@@ -110,6 +123,14 @@ mod tests {
             let found = Found::offset(vec![value], 10);
             assert_eq!((found.within_limit(), found.is_limited()), (within, limited));
         }
+    }
+
+    #[test]
+    fn terms_with_others_discarded() {
+        let found = Found::offset(vec![1, 2, 4, 8, 16], 11);
+        assert_eq!([0, 1, 2, 3].map(|ends| found.if_discarded(ends)), [Some(8), Some(5), Some(4), None]);
+        let found = Found::rate(vec![-1, 2, 40], 10, 2, 11);
+        assert_eq!([0, 1, 2].map(|ends| found.if_discarded(ends)), [Some(11), Some(10), None]);
     }
 
     #[test]

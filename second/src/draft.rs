@@ -35,6 +35,20 @@ impl Draft {
         }
     }
 
+    /// A frame that is right in every part, everything given but the payload, which is all zeros.
+    pub fn plain(channel: Channel, flags: u8, id: u16, words: u8, cycle: u8) -> Draft {
+        Draft {
+            channel,
+            indicators: Indicators::from_flags(flags),
+            id,
+            words,
+            cycle,
+            payload: vec![0; 2 * usize::from(words)],
+            header_checksum_change: 0,
+            frame_checksum_change: 0,
+        }
+    }
+
     /// The same frame with the reserved bit 0, so that it can be written.
     pub fn writable(self) -> Draft {
         Draft { indicators: Indicators { reserved: false, ..self.indicators }, ..self }

@@ -1,16 +1,41 @@
 //! Small scripts for every kind of script error, each with the lines written by hand.
 
 mod clock;
+mod gate;
 mod sizes;
 
 use crate::channel::Channel;
-use crate::script::{Command, Opening, Write};
+use crate::replay::{self, Outcome, Replay};
+use crate::script::{Broken, Cause, Command, Opening, Write};
 use crate::settings::Settings;
 use crate::status_numbers::{HeaderNumbers, StatusNumbers};
 
+pub use clock::{CLOSED, OPEN};
+pub use gate::one_of_each;
+
 pub struct Small {
+    /// None where the script plays to its end.
+    pub cause: Option<Cause>,
     pub script: Vec<u8>,
     pub text: String,
+}
+
+impl Small {
+    /// How the script is broken, or what is wrong with its lines or with the cause.
+    pub fn play(&self) -> Result<Option<Broken>, String> {
+        let text = replay::text(&self.script);
+        if text != self.text {
+            return Err(format!("{:02x?} should give {:?} and gave {text:?}", self.script, self.text));
+        }
+        let found = Replay::of(&self.script).find_map(|outcome| match outcome {
+            Outcome::ScriptError(_, broken) => Some(broken),
+            Outcome::Answered(..) => None,
+        });
+        if found.map(|broken| broken.cause) != self.cause {
+            return Err(format!("{:02x?} should end by {:?} and ended by {found:?}", self.script, self.cause));
+        }
+        Ok(found)
+    }
 }
 
 /// A frame that is accepted on channel A, from 01 "Numbers to check against".
@@ -20,6 +45,9 @@ const FRAME: [u8; 8] = [0x20, 0x01, 0x01, 0xA7, 0xC0, 0xD0, 0x5E, 0xEA];
 const SETTINGS: Settings = Settings { fields: [1, 2, 3, 4, 5, 6, 7, 8, 9, 0, 11], sends_sync: true };
 
 const OPENING: Opening = Opening { settings: SETTINGS, channel: 0, slot: 1, cycle: 0 };
+
+/// Bytes that begin no command: the letters in lower case, the capitals that have no command, and some others.
+pub const UNKNOWN_LETTERS: &[u8] = b"frwpsabxtlomckdEGHIJNQUVYZ\x00\n ?\x80\xFF";
 
 /// A status in which the frame above is kept.
 const STATUS: StatusNumbers = StatusNumbers {
@@ -41,9 +69,9 @@ const ZERO_CLOCK: &str = "clock 0 0 0 0 0 0 0 0 0 0 0 0 0 0 0 0 0 EVEN 0 ODD 0\n
 const ZERO_STATUS: &str = "status 0 0 0 0 0 0 0 0 0 0 0 0 0 0 0 0 0 0 0 0 0 0 0\n";
 
 pub fn all() -> Vec<Small> {
-    let mut all = vec![small(&[], "")];
+    let mut all = vec![whole(&[], "")];
     all.extend(unknown_letters());
-    all.extend(later_letter());
+    all.extend(before_bytes());
     all.extend(ends_inside());
     all.extend(clock::ends_inside());
     all.extend(sizes::too_large());
@@ -53,11 +81,18 @@ pub fn all() -> Vec<Small> {
     all.extend(no_errors());
     all.extend(clock::no_errors());
     all.extend(after_good_ones());
+    all.extend(one_of_each().into_iter().map(|(_, small)| small));
     all
 }
 
-fn small(script: &[u8], text: &str) -> Small {
-    Small { script: script.to_vec(), text: text.to_string() }
+/// A script without an error.
+fn whole(script: &[u8], text: &str) -> Small {
+    Small { cause: None, script: script.to_vec(), text: text.to_string() }
+}
+
+/// A script that is broken at its first command.
+fn broken(cause: Cause, script: &[u8]) -> Small {
+    Small { cause: Some(cause), script: script.to_vec(), text: "script error at 0\n".to_string() }
 }
 
 /// Both lines of a showing, the clock state being that of all zeros.
@@ -73,6 +108,7 @@ fn good_ones() -> Vec<(Vec<u8>, String)> {
         (Command::checksum(0, b"123456789"), line("checksum 0 7961021\n")),
         (Command::read(0, &FRAME), line("read 0 0 0 1 0 0 1 0 1695 0 -\n")),
         (Command::Write(write), line("write 0 8 200101a7c0d05eeaa5\n")),
+        (Command::bench(0, &FRAME), line("accepted 1 0 0\n")),
         (Command::OwnSending, line("event 23\n")),
         (Command::OpenSlot(OPENING), line("slot 0 0\n")),
         (Command::Boundary, line("event 0\n")),
@@ -97,19 +133,21 @@ fn bytes_of(command: &Command) -> Vec<u8> {
 }
 
 fn unknown_letters() -> Vec<Small> {
-    let letters = b"\x00\n?frwsabxtdlomckp\xFF";
-    letters.iter().map(|letter| small(&[*letter], "script error at 0\n")).collect()
+    UNKNOWN_LETTERS.iter().map(|letter| broken(Cause::UnknownLetter, &[*letter])).collect()
 }
 
-/// A letter that gets its meaning later: alone, and before bytes that its command may have, zeros and good commands.
-fn later_letter() -> Vec<Small> {
+/// Letters without a meaning before bytes that a command of theirs may have, zeros and good commands.
+fn before_bytes() -> Vec<Small> {
     let sheet = &bytes_of(&Command::OpenSlot(OPENING))[1..46];
     let zeros = shown(ZERO_STATUS);
-    vec![
-        small(b"P", "script error at 0\n"),
-        small(&[b"P", sheet, &[0; 500], b"DD"].concat(), "script error at 0\n"),
-        small(&[b"DP", &[0; 500][..]].concat(), &format!("{zeros}script error at 1\n")),
-    ]
+    let mut all = Vec::new();
+    for letter in [b"G", b"p"] {
+        all.push(broken(Cause::UnknownLetter, &[letter, sheet, &[0; 500], b"DD"].concat()));
+        let script = [b"D", &letter[..], &[0; 500]].concat();
+        let text = format!("{zeros}script error at 1\n");
+        all.push(Small { cause: Some(Cause::UnknownLetter), script, text });
+    }
+    all
 }
 
 /// Every place at which a command can be cut off, from right behind the letter on.
@@ -119,6 +157,7 @@ fn ends_inside() -> Vec<Small> {
         Command::checksum(0, &[1, 2]),
         Command::read(0, &FRAME),
         Command::Write(write),
+        Command::bench(0, &FRAME),
         Command::OpenSlot(OPENING),
         Command::Arrived(FRAME.to_vec()),
         Command::PutStatus(STATUS),
@@ -127,27 +166,39 @@ fn ends_inside() -> Vec<Small> {
     ];
     let mut all = Vec::new();
     for script in whole.map(|command| bytes_of(&command)) {
-        all.extend((1..script.len()).map(|size| small(&script[..size], "script error at 0\n")));
+        all.extend((1..script.len()).map(|size| broken(Cause::EndInside, &script[..size])));
     }
     // A foreign channel is no answer yet while the command isn't whole.
-    all.push(small(b"R\xFF\x08\x00\x20", "script error at 0\n"));
+    all.push(broken(Cause::EndInside, b"R\xFF\x08\x00\x20"));
+    all.push(broken(Cause::EndInside, b"P\x08\x00\xFF\x20"));
     all
 }
 
 /// Where a byte stands in its command, the letter at place 0.
-const SENDS_SYNC: usize = 45;
-const CHANNEL: usize = 46;
+pub const SENDS_SYNC: usize = 45;
+pub const CHANNEL: usize = 46;
 const MARKS: usize = 50;
 const REASON: usize = 51;
-const KEPT: usize = 52;
+pub const KEPT: usize = 52;
 const FLAGS: usize = 53;
+
+/// The bytes of a command with one of them changed.
+fn changed(command: &Command, place: usize, byte: u8) -> Vec<u8> {
+    let mut bytes = bytes_of(command);
+    bytes[place] = byte;
+    bytes
+}
 
 /// A status is put and shown before the command, and shown behind it.
 fn with_byte(command: &Command, place: usize, byte: u8, lines: &str) -> Small {
-    let mut changed = bytes_of(command);
-    changed[place] = byte;
     let put = bytes_of(&Command::PutStatus(STATUS));
-    small(&[&put[..], b"D", &changed, b"D"].concat(), &format!("status put\n{}{lines}", shown(STATUS_SHOWN)))
+    let script = [&put[..], b"D", &changed(command, place, byte), b"D"].concat();
+    whole(&script, &format!("status put\n{}{lines}", shown(STATUS_SHOWN)))
+}
+
+/// The same where the byte is an error.
+fn with_wrong_byte(command: &Command, place: usize, byte: u8, cause: Cause) -> Small {
+    Small { cause: Some(cause), ..with_byte(command, place, byte, "script error at 2\n") }
 }
 
 /// Switches that are neither 0 nor 1, and reasons above 5.
@@ -157,9 +208,9 @@ fn wrong_bytes() -> Vec<Small> {
     let switches = [(&open, SENDS_SYNC), (&put, SENDS_SYNC), (&put, CHANNEL), (&put, KEPT), (&unlooked, KEPT)];
     let mut all = Vec::new();
     for (command, place) in switches {
-        all.extend([2, 3, 128, 255].map(|byte| with_byte(command, place, byte, "script error at 2\n")));
+        all.extend([2, 3, 128, 255].map(|byte| with_wrong_byte(command, place, byte, Cause::WrongSwitch)));
     }
-    all.extend([6, 7, 128, 255].map(|byte| with_byte(&put, REASON, byte, "script error at 2\n")));
+    all.extend([6, 7, 128, 255].map(|byte| with_wrong_byte(&put, REASON, byte, Cause::ReasonAbove)));
     all
 }
 
@@ -177,49 +228,72 @@ fn no_errors() -> Vec<Small> {
 }
 
 fn after_good_ones() -> Vec<Small> {
-    const BROKEN: [&[u8]; 16] = [
-        b"?",
-        b"F",
-        b"R\x00\x08",
-        b"W\x00\x04\x01\x00\x00\x02\x00\x11",
-        b"F\x00\x59\x02",
-        b"R\x00\xFF\xFF",
-        b"W\x00\x04\x01\x00\x00\x59\x02",
-        b"W\x00\x04\x01\x00\x00\x00\x00\x59\x02",
-        b"S\x01\x00\x00\x00",
-        b"A\x59\x02",
-        b"T\x01\x00\x00\x00",
-        b"L\x01\x00\x00\x00",
-        b"O",
-        b"M\x01\x00\x00\x00\x02\x00\x00",
-        b"C\x01",
-        b"K\x01\x00\x00\x00",
+    const BROKEN: [(Cause, &[u8]); 18] = [
+        (Cause::UnknownLetter, b"?"),
+        (Cause::EndInside, b"F"),
+        (Cause::EndInside, b"R\x00\x08"),
+        (Cause::EndInside, b"W\x00\x04\x01\x00\x00\x02\x00\x11"),
+        (Cause::EndInside, b"P\x02\x00\x00"),
+        (Cause::SizeAbove, b"F\x00\x59\x02"),
+        (Cause::SizeAbove, b"R\x00\xFF\xFF"),
+        (Cause::SizeAbove, b"W\x00\x04\x01\x00\x00\x59\x02"),
+        (Cause::RoomAbove, b"W\x00\x04\x01\x00\x00\x00\x00\x59\x02"),
+        (Cause::SizeAbove, b"P\x59\x02"),
+        (Cause::EndInside, b"S\x01\x00\x00\x00"),
+        (Cause::SizeAbove, b"A\x59\x02"),
+        (Cause::EndInside, b"T\x01\x00\x00\x00"),
+        (Cause::EndInside, b"L\x01\x00\x00\x00"),
+        (Cause::EndInside, b"O"),
+        (Cause::EndInside, b"M\x01\x00\x00\x00\x02\x00\x00"),
+        (Cause::EndInside, b"C\x01"),
+        (Cause::EndInside, b"K\x01\x00\x00\x00"),
     ];
     let good = good_ones();
-    let mut all: Vec<Small> = BROKEN.iter().map(|broken| after(&good, broken)).collect();
+    let mut all: Vec<Small> = BROKEN.iter().map(|(cause, broken)| after(&good, *cause, broken)).collect();
     // Nothing behind a script error is played.
-    all.push(after(&good, &[b"?", &good[0].0[..]].concat()));
+    all.push(after(&good, Cause::UnknownLetter, &[b"?", &good[0].0[..]].concat()));
     let many: Vec<_> = good.iter().cycle().take(101).cloned().collect();
-    all.push(after(&many, b"?"));
+    all.push(after(&many, Cause::UnknownLetter, b"?"));
     all
 }
 
-fn after(good: &[(Vec<u8>, String)], broken: &[u8]) -> Small {
+fn after(good: &[(Vec<u8>, String)], cause: Cause, broken: &[u8]) -> Small {
     let mut script: Vec<u8> = good.iter().flat_map(|(command, _)| command.clone()).collect();
     script.extend(broken);
     let lines: String = good.iter().map(|(_, line)| line.as_str()).collect();
-    Small { script, text: format!("{lines}script error at {}\n", good.len()) }
+    Small { cause: Some(cause), script, text: format!("{lines}script error at {}\n", good.len()) }
 }
 
 #[cfg(test)]
 mod tests {
+    use std::collections::BTreeSet;
+
     use super::*;
-    use crate::replay;
 
     #[test]
     fn the_interpreter_gives_the_lines() {
         for small in all() {
-            assert_eq!(replay::text(&small.script), small.text, "{:02x?}", small.script);
+            assert_eq!(small.play().err(), None);
         }
+    }
+
+    /// Six different ones, and what stands behind the error would be played without it.
+    #[test]
+    fn one_script_for_each_cause() {
+        let causes: BTreeSet<Option<Cause>> = one_of_each().iter().map(|(_, small)| small.cause).collect();
+        assert_eq!((causes.len(), causes.contains(&None)), (6, false));
+        for (name, small) in one_of_each() {
+            let behind = small.script.ends_with(b"D");
+            assert_eq!(behind, small.cause != Some(Cause::EndInside), "{name}");
+        }
+    }
+
+    #[test]
+    fn other_lines_and_other_causes_are_found_out() {
+        let right = || broken(Cause::UnknownLetter, b"?");
+        assert!(right().play().is_ok());
+        assert!(Small { cause: Some(Cause::EndInside), ..right() }.play().is_err());
+        assert!(Small { cause: None, ..right() }.play().is_err());
+        assert!(Small { text: String::new(), ..right() }.play().is_err());
     }
 }

@@ -6,7 +6,7 @@ use crate::frame::{Indicators, HIGHEST_CYCLE, HIGHEST_ID, LARGEST_PAYLOAD, MOST_
 use crate::random::Random;
 use crate::refusal::Refusal;
 use crate::scene::Scene;
-use crate::script::{Command, Opening, Write, LIMIT};
+use crate::script::{Command, OnChannel, Opening, Write, LIMIT};
 use crate::settings::{self, FIELDS};
 
 /// Every selection from an order, the empty one first; each keeps the order.
@@ -32,11 +32,27 @@ pub fn faulty_checksum(random: &mut Random, faults: &[Refusal]) -> Command {
 
 /// A read in which each of the named refusals has a cause.
 pub fn faulty_read(random: &mut Random, faults: &[Refusal]) -> Command {
+    Command::Read(faulty_frame(random, faults))
+}
+
+/// The same for the bench program, which refuses as a read does.
+pub fn faulty_bench(random: &mut Random, faults: &[Refusal]) -> Command {
+    bench_of(&faulty_frame(random, faults))
+}
+
+/// The bench program's input in place of a read. The last byte of the longest has no room in a script; it is one of far
+/// more than a frame can have.
+pub fn bench_of(given: &OnChannel) -> Command {
+    let kept = given.bytes.len().min(LIMIT - 1);
+    Command::bench(given.channel, &given.bytes[..kept])
+}
+
+fn faulty_frame(random: &mut Random, faults: &[Refusal]) -> OnChannel {
     let channel = random.pick(&Channel::BOTH);
     let words = fair_words(random);
     let fair = Draft::fair(random, channel, words);
     let bytes = faulty_bytes(random, fair, faults);
-    Command::read(channel_number(random, channel, faults), &bytes)
+    OnChannel { channel: channel_number(random, channel, faults), bytes }
 }
 
 /// The bytes of a frame, with a cause in them for each of the named refusals but that of the channel.

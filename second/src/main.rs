@@ -1,6 +1,7 @@
 //! A second program for FlexRay frames, slots and clock: works out what a replay script must give, and makes such scripts.
 
 mod answer;
+mod bench;
 mod bits;
 mod cases;
 mod channel;
@@ -19,6 +20,7 @@ mod errors;
 mod faults;
 mod frame;
 mod history;
+mod listed_frames;
 mod marks;
 mod mixture;
 mod plan;
@@ -69,7 +71,18 @@ fn write_scripts(directory: &Path) -> Done {
     fs::create_dir_all(directory)?;
     fs::write(directory.join("stdin"), &vectors.script)?;
     fs::write(directory.join("stdout"), &vectors.text)?;
+    write_ends(&directory.join("ends"))?;
     println!("{}", vectors.summary);
+    Ok(())
+}
+
+/// One script for each kind of script error.
+fn write_ends(directory: &Path) -> Done {
+    fs::create_dir_all(directory)?;
+    for (name, small) in errors::one_of_each() {
+        fs::write(directory.join(format!("{name}.stdin")), &small.script)?;
+        fs::write(directory.join(format!("{name}.stdout")), &small.text)?;
+    }
     Ok(())
 }
 

@@ -6,11 +6,11 @@ use crate::bits;
 use crate::channel::Channel;
 use crate::clock_mixture;
 use crate::draft::{fair_words, foreign_channel, Draft};
-use crate::faults::{faulty_read, faulty_write, some_faults};
+use crate::faults::{bench_of, faulty_bench, faulty_read, faulty_write, some_faults};
 use crate::frame::Indicators;
 use crate::random::Random;
 use crate::refusal::{READ_ORDER, WRITE_ORDER};
-use crate::script::{Command, LIMIT};
+use crate::script::{Command, OnChannel, LIMIT};
 use crate::slot_mixture;
 
 /// A whole script of random commands.
@@ -57,15 +57,25 @@ pub fn clock_stretch(random: &mut Random) -> Vec<Command> {
 }
 
 pub fn frame_command(random: &mut Random) -> Command {
-    match random.below(20) {
+    match random.below(26) {
         0 | 1 => any_checksum(random),
-        2 | 3 => random_bytes_read(random),
-        4 | 5 => true_frame_read(random),
-        6..=8 => damaged_read(random),
-        9 => cut_or_extended_read(random),
-        10 => random_header_read(random),
+        2..=10 => Command::Read(any_frame(random)),
         11..=13 => read_with_some_faults(random),
-        _ => write_with_some_faults(random),
+        14..=19 => write_with_some_faults(random),
+        20..=23 => bench_of(&any_frame(random)),
+        24 => bench_with_some_faults(random),
+        _ => any_bench_input(random),
+    }
+}
+
+/// Bytes to be read on a channel: frames as a rule, good or damaged.
+fn any_frame(random: &mut Random) -> OnChannel {
+    match random.below(9) {
+        0 | 1 => random_bytes(random),
+        2 | 3 => true_frame(random),
+        4..=6 => damaged_frame(random),
+        7 => cut_or_extended(random),
+        _ => random_header(random),
     }
 }
 
@@ -96,22 +106,22 @@ fn any_checksum(random: &mut Random) -> Command {
     Command::checksum(any_channel(random), &random.bytes(size))
 }
 
-fn random_bytes_read(random: &mut Random) -> Command {
+fn random_bytes(random: &mut Random) -> OnChannel {
     let size = any_size(random);
-    Command::read(any_channel(random), &random.bytes(size))
+    OnChannel { channel: any_channel(random), bytes: random.bytes(size) }
 }
 
-/// A good frame, read on its own channel or by chance on another.
-fn true_frame_read(random: &mut Random) -> Command {
+/// A good frame, on its own channel or by chance on another.
+fn true_frame(random: &mut Random) -> OnChannel {
     let draft = fair_draft(random);
     let other = random.one_in(4);
     let channel = if other { any_channel(random) } else { draft.channel.number() };
-    Command::read(channel, &draft.bytes())
+    OnChannel { channel, bytes: draft.bytes() }
 }
 
-fn damaged_read(random: &mut Random) -> Command {
+fn damaged_frame(random: &mut Random) -> OnChannel {
     let draft = fair_draft(random);
-    Command::read(draft.channel.number(), &damaged(random, &draft))
+    OnChannel { channel: draft.channel.number(), bytes: damaged(random, &draft) }
 }
 
 /// The bytes of a frame with some of their bits turned over.
@@ -124,7 +134,7 @@ pub fn damaged(random: &mut Random, draft: &Draft) -> Vec<u8> {
     bytes
 }
 
-fn cut_or_extended_read(random: &mut Random) -> Command {
+fn cut_or_extended(random: &mut Random) -> OnChannel {
     let draft = fair_draft(random);
     let mut bytes = draft.bytes();
     if random.coin() {
@@ -133,17 +143,17 @@ fn cut_or_extended_read(random: &mut Random) -> Command {
         let more = random.between(1, 12);
         bytes.extend(random.bytes(more));
     }
-    Command::read(draft.channel.number(), &bytes)
+    OnChannel { channel: draft.channel.number(), bytes }
 }
 
 /// Any header at all with both checksums right for it.
-fn random_header_read(random: &mut Random) -> Command {
+fn random_header(random: &mut Random) -> OnChannel {
     let fair = fair_draft(random);
     let indicators = Indicators::from_flags(random.below(32) as u8);
     let id = if random.one_in(4) { 0 } else { fair.id };
     let words = if random.one_in(3) { random.below(128) as u8 } else { fair.words };
     let draft = Draft { indicators, id, words, ..fair };
-    Command::read(draft.channel.number(), &draft.bytes())
+    OnChannel { channel: draft.channel.number(), bytes: draft.bytes() }
 }
 
 fn read_with_some_faults(random: &mut Random) -> Command {
@@ -151,7 +161,52 @@ fn read_with_some_faults(random: &mut Random) -> Command {
     faulty_read(random, &faults)
 }
 
+fn bench_with_some_faults(random: &mut Random) -> Command {
+    let faults = some_faults(random, &READ_ORDER);
+    faulty_bench(random, &faults)
+}
+
+/// Any bytes as the whole input, none at all now and then.
+fn any_bench_input(random: &mut Random) -> Command {
+    let size = if random.one_in(4) { 0 } else { any_size(random) };
+    Command::Bench(random.bytes(size))
+}
+
 fn write_with_some_faults(random: &mut Random) -> Command {
     let faults = some_faults(random, &WRITE_ORDER);
     faulty_write(random, &faults)
+}
+
+#[cfg(test)]
+mod tests {
+    use super::*;
+    use crate::replay::{Outcome, Replay};
+
+    /// Every answer of the bench program turns up, and frames are accepted on both channels.
+    #[test]
+    fn bench_lines_of_every_sort() {
+        let mut random = Random::from_seed(31);
+        let mut script = Vec::new();
+        for _ in 0..6_000 {
+            frame_command(&mut random).append_to(&mut script);
+        }
+        let outcomes: Vec<_> = Replay::of(&script).collect();
+        let lines: Vec<String> = outcomes.iter().map(|outcome| outcome.line()).collect();
+        let count = |start: &str| lines.iter().filter(|line| line.starts_with(start)).count();
+        for number in 1..=8 {
+            assert!(count(&format!("refused {number}")) > 0, "{number}");
+        }
+        assert!(count("accepted") > 100);
+        for channel in Channel::BOTH {
+            let accepted = outcomes.iter().filter(|outcome| is_accepted_on(channel, outcome));
+            assert!(accepted.count() > 40);
+        }
+    }
+
+    fn is_accepted_on(channel: Channel, outcome: &Outcome) -> bool {
+        let Outcome::Answered(Command::Bench(input), answer) = outcome else {
+            return false;
+        };
+        input.first() == Some(&channel.number()) && answer.refusal().is_none()
+    }
 }

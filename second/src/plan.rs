@@ -58,6 +58,8 @@ pub enum Note {
     CheckValue,
     HeaderOf01,
     SizeOf01(usize),
+    /// A number from 01 or from the papers beside it, by a name for what it shows.
+    Number(&'static str),
     /// Two causes of the entry with this letter stood together; the first is the answer.
     Coincidence(char, Refusal, Refusal),
     Slot(SlotNote),

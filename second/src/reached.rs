@@ -1,7 +1,9 @@
 //! Counts what a script reached, and names what it should have reached and did not.
 
+mod bench;
 mod clock;
 mod clock_required;
+mod ends;
 mod frames;
 mod slots;
 
@@ -9,12 +11,15 @@ use std::collections::{BTreeMap, BTreeSet};
 
 use crate::answer::Answer;
 use crate::channel::Channel;
+use crate::clock_note::Last;
 use crate::plan::{Note, Plan};
 use crate::refusal::Refusal;
 use crate::replay::Outcome;
 use crate::script::Command;
 
+pub use bench::BenchReach;
 pub use clock::ClockReach;
+pub use ends::EndReach;
 
 #[derive(Clone, Copy, Debug, PartialEq, Eq, PartialOrd, Ord)]
 pub enum Reach {
@@ -42,6 +47,7 @@ pub enum Reach {
     RoomLarger,
     RoomOneShort,
     RoomZero,
+    Bench(BenchReach),
     FieldOpened(usize, u32),
     FieldNotOpened(usize, u32),
     SyncSenderOpened(bool),
@@ -51,6 +57,10 @@ pub enum Reach {
     CycleNotOpened(u8),
     /// Marks shown where nothing but events followed an opening.
     MarksFromOpening(Channel, u8),
+    /// The content reason shown there, 0 for none.
+    ReasonFromOpening(Channel, u8),
+    /// One of the five leading bits of a frame kept there, by its place.
+    IndicatorKept(usize, bool),
     /// Letter and number of an answer that isn't about a slot, after which the status that was held is shown, and has marks.
     StatusStayed(char, u8),
     /// Letter and number of an answer that isn't about the clock, after which the state that was held is shown, and lists
@@ -59,6 +69,8 @@ pub enum Reach {
     Clock(ClockReach),
     Noted(Note),
     ScriptError,
+    /// Reached by a small script.
+    End(EndReach),
 }
 
 #[derive(Default)]
@@ -70,6 +82,10 @@ pub struct Reached {
     beside_status: BTreeSet<(char, u8)>,
     /// The same for the clock state.
     beside_clock: BTreeSet<(char, u8)>,
+    /// The last closed cycle of the clock state held.
+    last_closed: Option<u8>,
+    /// What the last closed cycle was when an odd cycle was opened, until another one is.
+    odd_opened: Option<Last>,
 }
 
 impl Reached {
@@ -88,9 +104,11 @@ impl Reached {
         required().into_iter().filter(|reach| !self.counts.contains_key(reach)).collect()
     }
 
-    /// How often each entry gave each number, one line per entry.
+    /// How often each entry gave each number, one line per entry, and how the small scripts ended.
     pub fn summary(&self) -> String {
-        "FRWSABXTLOMCKD".chars().map(|letter| self.summary_of(letter)).collect::<Vec<String>>().join("\n")
+        let mut lines: Vec<String> = "FRWPSABXTLOMCKD".chars().map(|letter| self.summary_of(letter)).collect();
+        lines.push(self.summary_of_ends());
+        lines.join("\n")
     }
 
     fn summary_of(&self, letter: char) -> String {
@@ -116,8 +134,10 @@ impl Reached {
             Command::Checksum(given) => self.add_channel('F', given.channel),
             Command::Read(given) => self.add_read(given, answer),
             Command::Write(write) => self.add_write(write, answer.refusal()),
+            Command::Bench(input) => self.add_bench(input, answer),
             Command::OpenSlot(opening) => self.add_opening(opening, answer),
             Command::PutStatus(_) => self.add_put(),
+            Command::PutClock(numbers) => self.add_put_clock(numbers),
             Command::Load(settings) => self.add_load(settings, answer),
             Command::OpenCycle(cycle) => self.add_open_cycle(*cycle, answer),
             Command::Measure(times) => self.add_measure(times, answer),
@@ -134,6 +154,8 @@ impl Reached {
 fn required() -> Vec<Reach> {
     let mut all = vec![Reach::ScriptError];
     all.extend(frames::required());
+    all.extend(bench::required());
+    all.extend(ends::required());
     all.extend(slots::required());
     all.extend(clock_required::all());
     all

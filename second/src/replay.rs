@@ -1,20 +1,21 @@
 //! Plays a script and says, line by line, what was answered.
 
 use crate::answer::{Answer, Held};
-use crate::script::{Command, Rest};
+use crate::script::{Broken, Command, Rest};
 
 /// What one place of a script came to.
 #[derive(Debug)]
 pub enum Outcome {
     Answered(Command, Answer),
-    ScriptError(usize),
+    /// The command's number, counted from 0.
+    ScriptError(usize, Broken),
 }
 
 impl Outcome {
     pub fn line(&self) -> String {
         match self {
             Outcome::Answered(_, answer) => answer.line(),
-            Outcome::ScriptError(command) => format!("script error at {command}"),
+            Outcome::ScriptError(command, _) => format!("script error at {command}"),
         }
     }
 }
@@ -31,6 +32,18 @@ impl<'a> Replay<'a> {
     pub fn of(script: &'a [u8]) -> Replay<'a> {
         Replay { rest: Rest::of(script), held: Held::default(), command: 0, broken: false }
     }
+
+    fn play(&mut self, command: Command) -> Outcome {
+        self.command += 1;
+        let answer = Answer::to(&command, &mut self.held);
+        Outcome::Answered(command, answer)
+    }
+
+    /// Nothing behind a script error is played.
+    fn stop(&mut self, broken: Broken) -> Outcome {
+        self.broken = true;
+        Outcome::ScriptError(self.command, broken)
+    }
 }
 
 impl Iterator for Replay<'_> {
@@ -40,13 +53,10 @@ impl Iterator for Replay<'_> {
         if self.broken || self.rest.is_empty() {
             return None;
         }
-        let Some(command) = self.rest.take_command() else {
-            self.broken = true;
-            return Some(Outcome::ScriptError(self.command));
-        };
-        self.command += 1;
-        let answer = Answer::to(&command, &mut self.held);
-        Some(Outcome::Answered(command, answer))
+        match self.rest.take_command() {
+            Ok(command) => Some(self.play(command)),
+            Err(broken) => Some(self.stop(broken)),
+        }
     }
 }
 
@@ -67,6 +77,9 @@ mod tests {
             W\x00\xE4\x01\x00\x00\x00\x00\x0A\x00\
             W\x00\x04\x01\x00\x00\x00\x00\x02\x00\
             W\x02\x04\x01\x00\x00\x00\x00\x00\x00\
+            P\x09\x00\x01\x20\x01\x01\xA7\xC0\x3B\xD0\x8F\
+            P\x02\x00\x00\x20\
+            P\x00\x00\
             F\x02\x00\x00";
         let lines = [
             "checksum 0 7961021",
@@ -75,6 +88,9 @@ mod tests {
             "write 0 8 200101a7c0d05eeaa5a5",
             "write 13 0 a5a5",
             "write 1 0 -",
+            "accepted 1 0 0",
+            "refused 2",
+            "refused 1",
             "checksum 1 0",
         ];
         assert_eq!(text(script), lines.join("\n") + "\n");

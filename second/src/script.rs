@@ -10,7 +10,7 @@ use crate::frame::{Indicators, ToWrite};
 use crate::settings::Settings;
 use crate::status_numbers::StatusNumbers;
 
-pub use taking::Rest;
+pub use taking::{Broken, Cause, Rest};
 
 /// The highest size or room that a script may name.
 pub const LIMIT: usize = 600;
@@ -52,6 +52,8 @@ pub enum Command {
     Checksum(OnChannel),
     Read(OnChannel),
     Write(Write),
+    /// The whole input of the bench program.
+    Bench(Vec<u8>),
     OpenSlot(Opening),
     Arrived(Vec<u8>),
     Boundary,
@@ -74,6 +76,11 @@ impl Command {
         Command::Read(OnChannel { channel, bytes: bytes.to_vec() })
     }
 
+    /// The bench program's input: the channel's byte and the frame bytes.
+    pub fn bench(channel: u8, bytes: &[u8]) -> Command {
+        Command::Bench([&[channel], bytes].concat())
+    }
+
     pub fn put_clock(numbers: &ClockNumbers) -> Command {
         Command::PutClock(Box::new(*numbers))
     }
@@ -83,6 +90,7 @@ impl Command {
             Command::Checksum(_) => 'F',
             Command::Read(_) => 'R',
             Command::Write(_) => 'W',
+            Command::Bench(_) => 'P',
             Command::OpenSlot(_) => 'S',
             Command::Arrived(_) => 'A',
             Command::Boundary => 'B',
@@ -109,7 +117,7 @@ mod tests {
     fn write_command_by_hand() {
         let script = b"W\x01\x1C\x02\x03\x04\x02\x00\xEE\xFF\x58\x02";
         let write = Write { channel: 1, flags: 0x1C, id: 0x302, cycle: 4, payload: vec![0xEE, 0xFF], room: 600 };
-        assert_eq!(Rest::of(script).take_command(), Some(Command::Write(write.clone())));
+        assert_eq!(Rest::of(script).take_command(), Ok(Command::Write(write.clone())));
         let mut built = Vec::new();
         Command::Write(write).append_to(&mut built);
         assert_eq!(built, script);
@@ -120,10 +128,12 @@ mod tests {
         let mut built = Vec::new();
         Command::checksum(0, &[7, 8, 9]).append_to(&mut built);
         Command::read(255, &[]).append_to(&mut built);
-        assert_eq!(built, b"F\x00\x03\x00\x07\x08\x09R\xFF\x00\x00");
+        Command::bench(1, &[7, 8]).append_to(&mut built);
+        assert_eq!(built, b"F\x00\x03\x00\x07\x08\x09R\xFF\x00\x00P\x03\x00\x01\x07\x08");
         let mut rest = Rest::of(&built);
-        assert_eq!(rest.take_command(), Some(Command::checksum(0, &[7, 8, 9])));
-        assert_eq!(rest.take_command(), Some(Command::read(255, &[])));
+        assert_eq!(rest.take_command(), Ok(Command::checksum(0, &[7, 8, 9])));
+        assert_eq!(rest.take_command(), Ok(Command::read(255, &[])));
+        assert_eq!(rest.take_command(), Ok(Command::Bench(vec![1, 7, 8])));
         assert!(rest.is_empty());
     }
 
@@ -216,7 +226,7 @@ mod tests {
 
     fn assert_both_ways(script: &[u8], command: &Command) {
         let mut rest = Rest::of(script);
-        assert_eq!(rest.take_command().as_ref(), Some(command));
+        assert_eq!(rest.take_command().as_ref(), Ok(command));
         assert!(rest.is_empty());
         let mut built = Vec::new();
         command.append_to(&mut built);

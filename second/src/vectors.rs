@@ -1,6 +1,7 @@
 //! The whole script of listed cases with its lines, checked before anything is written.
 
 use crate::cases;
+use crate::errors;
 use crate::plan::Plan;
 use crate::reached::Reached;
 use crate::replay::{self, Outcome, Replay};
@@ -28,7 +29,10 @@ pub fn build() -> Result<Vectors, String> {
     script.extend(broken_end());
     let outcomes: Vec<Outcome> = Replay::of(&script).collect();
     check(&plan, &outcomes)?;
-    let reached = Reached::count(&plan, &outcomes);
+    let mut reached = Reached::count(&plan, &outcomes);
+    for small in errors::all() {
+        reached.add_end(small.play()?);
+    }
     let missing = reached.missing();
     if !missing.is_empty() {
         return Err(format!("not reached: {missing:?}"));
@@ -65,8 +69,8 @@ mod tests {
     #[test]
     fn the_listed_cases_hold_and_reach_everything() {
         let vectors = build().unwrap();
-        assert!(vectors.script.len() < 2_400_000);
-        assert!(Replay::of(&vectors.script).count() < 64_000);
+        assert!(vectors.script.len() < 2_800_000);
+        assert!(Replay::of(&vectors.script).count() < 70_000);
         assert!(vectors.text.len() < 3_000_000);
     }
 }

@@ -1,5 +1,5 @@
 -- The claims about the bench program's line.
-use Prim.Native.Nat.{ℕ, zero, suc, _+_, _-_, _^_, _<_, _≤_}
+use Prim.Native.Nat.{ℕ, zero, suc, _+_, _^_, _<_, _≤_}
 use mathlib.Core.Path.{_≡_, refl, sym, ap, _∙_}
 use mathlib.Core.Bool.{Bool, true, false, cond, _&&_}
 use mathlib.Core.List.{List, [], _∷_, _++_}
@@ -13,12 +13,13 @@ use Rattle.numbers.proofs.Truth.{both-true}
 use Rattle.numbers.proofs.Walk.{cases}
 use Rattle.refusal.specs.Refusal.{Line, _when_, first}
 use Rattle.refusal.proofs.FirstLaws.{first-skip, first-here}
-use Rattle.division.specs.Bits.{odd, number, bytesBits}
+use Rattle.division.specs.Bits.{odd, bytesBits}
 use Rattle.division.proofs.BitsLaws.{number-lt}
 use Rattle.checksum.specs.Channel.{notAChannel, channelOf}
-use Rattle.frame.specs.declared.header.Header.{Header}
+use Rattle.header.specs.declared.Header.{Header}
+use Rattle.header.specs.Layout.{field, headerIn}
 use Rattle.frame.specs.Refusals.{tooShort, badSize}
-use Rattle.frame.specs.Read.{field, headerIn, headerRead, refusals, refusalsOn, rule}
+use Rattle.frame.specs.Read.{headerRead, refusals, refusalsOn, rule}
 use Rattle.bench_line.specs.Line.{refusalOf, acceptedWord, refusedWord, behindSpace, lineFeed, acceptedLine, refusedLine, lineBy, lineOf}
 use Rattle.bench_claims.specs.Line.{LineOne, NoInput, TooLong, FrontDecides, AtMost21}
 use Rattle.bench_claims.proofs.DecimalLaws.{decimal-short}

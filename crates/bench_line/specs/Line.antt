@@ -6,7 +6,7 @@ use mathlib.Core.List.{List, [], _∷_, _++_}
 use lib.ListN.{length, drop}
 use lib.Dec.{ltb}
 use Rattle.refusal.specs.Refusal.{first, ifAccepted}
-use Rattle.frame.specs.declared.header.Header.{Header}
+use Rattle.header.specs.declared.Header.{Header}
 use Rattle.frame.specs.declared.reader.Reading.{Reading}
 use Rattle.frame.specs.Read.{Told, told, refusals, rule}
 use Rattle.frame.specs.Write.{over}

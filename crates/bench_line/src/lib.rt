@@ -7,9 +7,9 @@ ghost use Prim.Native.Nat.{_+_, _≤_};
 ghost use lib.ListN.{length};
 ghost use Rattle.frame.specs.Read.{told};
 ghost use Rattle.bench_line.specs.Line.{behindSpace, acceptedLine, refusedLine, lineBy, ReadingOfInput, LineSays};
-ghost use Rattle.bench_line.specs.Putting.{Puts};
-use frame::Header;
+ghost use Rattle.bench_line.specs.Putting.{Puts, numberRoom, lineRoom};
 use frame::Reading;
+use header::Header;
 
 // The longest line, `accepted 2047 63 127` and its line feed. Output of this size takes every line.
 pub const LONGEST: usize = 21;
@@ -18,7 +18,7 @@ pub const LONGEST: usize = 21;
 const ROOM: usize = 72;
 
 // Puts the line for this input at the front of the output, and answers its size. Output that is too short for it stays as it is,
-// with 0.
+// with 0. (The second promise follows from the first, and lets a caller take the part of the output that the size names.)
 pub fn line(input: &[u8], output: &mut [u8]) -> usize
     ensures { λ r. ⌜ LineSays (now (input .entry)) (now (output .entry)) (now (output .exit)) r ⌝ }
     ensures { λ r. ⌜ r ≤ length (now (output .entry)) ⌝ }
@@ -43,9 +43,9 @@ fn read_input(input: &[u8]) -> Reading
 
 // `accepted ID CYCLE WORDS` or `refused N`, and the line feed.
 fn put_line(line: &mut [u8], reading: Reading) -> usize
-    requires { ⌜ length (now line) ≡ 72 ⌝ }
+    requires { ⌜ length (now line) ≡ lineRoom ⌝ }
     ensures { λ r. ⌜ Puts (lineBy (told reading)) 0 r (now (line .entry)) (now (line .exit)) ⌝ }
-    ensures { λ r. ⌜ r ≤ 72 ⌝ }
+    ensures { λ r. ⌜ r ≤ lineRoom ⌝ }
 {
     let number = reading.number();
     if number != 0 {
@@ -55,9 +55,9 @@ fn put_line(line: &mut [u8], reading: Reading) -> usize
 }
 
 fn put_refused(line: &mut [u8], number: u8) -> usize
-    requires { ⌜ length (now line) ≡ 72 ⌝ }
+    requires { ⌜ length (now line) ≡ lineRoom ⌝ }
     ensures { λ r. ⌜ Puts (refusedLine number) 0 r (now (line .entry)) (now (line .exit)) ⌝ }
-    ensures { λ r. ⌜ r ≤ 72 ⌝ }
+    ensures { λ r. ⌜ r ≤ lineRoom ⌝ }
 {
     let at = put(line, 0, b"refused");
     let at = put_decimal(line, at, number as u64);
@@ -65,9 +65,9 @@ fn put_refused(line: &mut [u8], number: u8) -> usize
 }
 
 fn put_accepted(line: &mut [u8], header: Header) -> usize
-    requires { ⌜ length (now line) ≡ 72 ⌝ }
+    requires { ⌜ length (now line) ≡ lineRoom ⌝ }
     ensures { λ r. ⌜ Puts (acceptedLine header) 0 r (now (line .entry)) (now (line .exit)) ⌝ }
-    ensures { λ r. ⌜ r ≤ 72 ⌝ }
+    ensures { λ r. ⌜ r ≤ lineRoom ⌝ }
 {
     let at = put(line, 0, b"accepted");
     let at = put_decimal(line, at, header.id.0 as u64);
@@ -78,9 +78,9 @@ fn put_accepted(line: &mut [u8], header: Header) -> usize
 
 // Puts a space and the number behind what stands before `at`, and answers where it ends.
 fn put_decimal(line: &mut [u8], at: usize, number: u64) -> usize
-    requires { ⌜ at + 21 ≤ length (now line) ⌝ }
+    requires { ⌜ at + numberRoom ≤ length (now line) ⌝ }
     ensures { λ r. ⌜ Puts (behindSpace number) at r (now (line .entry)) (now (line .exit)) ⌝ }
-    ensures { λ r. ⌜ r ≤ at + 21 ⌝ }
+    ensures { λ r. ⌜ r ≤ at + numberRoom ⌝ }
 {
     let mut digits = [0u8; 20];
     let count = io::decimal(number, &mut digits);

@@ -1,4 +1,2 @@
 pub mod StatementLaws
-pub mod AnswerLaws
 pub mod SoundLaws
-pub mod RangeLaws

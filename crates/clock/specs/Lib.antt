@@ -2,5 +2,3 @@ pub mod State
 pub mod Sound
 pub mod Loading
 pub mod Opening
-pub mod Measuring
-pub mod Closing

@@ -4,8 +4,8 @@ use mathlib.Core.Path.{_≡_}
 use mathlib.Core.Bool.{Bool, not, _&&_, cond}
 use mathlib.Core.List.{List, [], _∷_}
 use Rattle.refusal.specs.Refusal.{Line, _when_, first, ifAccepted}
-use Rattle.frame.specs.declared.header.Cycle.{Cycle}
-use Rattle.frame.specs.Refusals.{cycleTooHigh}
+use Rattle.header.specs.declared.Cycle.{Cycle}
+use Rattle.header.specs.Refusals.{cycleTooHigh}
 use Rattle.sync_list.specs.declared.list.SyncList.{SyncList}
 use Rattle.sync_list.specs.Lists.{empty}
 use Rattle.clock.specs.declared.state.CycleOrNone.the-variants.{Is}

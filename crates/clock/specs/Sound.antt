@@ -1,7 +1,7 @@
 -- Which clock states are sound (01, "Refusal numbers": "A clock state is sound if").
 use Prim.Native.Nat.{ℕ}
 use mathlib.Core.Bool.{Bool, true, not, _&&_}
-use Rattle.frame.specs.Refusals.{cycleTooHigh}
+use Rattle.header.specs.Refusals.{cycleTooHigh}
 use Rattle.settings.specs.Sheet.{outOfRange, syncIdLimit, rateLimit}
 use Rattle.correction.specs.declared.microtick.SignedMicrotick.{SignedMicrotick}
 use Rattle.correction.specs.Terms.{isOutside}

@@ -5,7 +5,7 @@ use crate::sound;
 use crate::state;
 use crate::state::Clock;
 use crate::state::CycleOrNone;
-use frame::Cycle;
+use header::Cycle;
 use sync_list::SyncList;
 
 // What opening a cycle answers: that it is open, or why it is not.
@@ -100,6 +100,6 @@ fn keeps_even(clock: Clock, cycle: Cycle) -> bool
         return false;
     }
     let last_closed = clock.last_closed;
-    let before = cycle.0 - 1;
+    let before = Cycle(cycle.0 - 1);
     last_closed.is_cycle(before)
 }

@@ -2,7 +2,7 @@
 ghost use mathlib.Core.Path.{_≡_};
 ghost use Rattle.clock.specs.State.{isThere, cycleIn, isCycle, isOdd, fresh as State·fresh, noClock, currentCycle, listOf, withList};
 use correction::SignedMicrotick;
-use frame::Cycle;
+use header::Cycle;
 use settings::Settings;
 use sync_list::SyncList;
 
@@ -43,19 +43,19 @@ impl CycleOrNone {
         cycle
     }
 
-    // Whether it is the cycle with this number.
-    pub(crate) fn is_cycle(self, number: u8) -> bool
-        ensures { λ r. ⌜ r ≡ isCycle number self ⌝ }
+    // Whether it is this cycle.
+    pub(crate) fn is_cycle(self, sought: Cycle) -> bool
+        ensures { λ r. ⌜ r ≡ isCycle (sought .0) self ⌝ }
     {
         let CycleOrNone::Is(cycle) = self else {
             return false;
         };
-        cycle.0 == number
+        cycle.0 == sought.0
     }
 }
 
 // Whether a cycle is odd. Any other is even.
-pub(crate) fn is_odd(cycle: Cycle) -> bool
+pub fn is_odd(cycle: Cycle) -> bool
     ensures { λ r. ⌜ r ≡ isOdd cycle ⌝ }
 {
     cycle.0 % 2 == 1
@@ -84,7 +84,7 @@ impl Clock {
     }
 
     // The open cycle; 0 where none is open.
-    pub(crate) fn current_cycle(self) -> Cycle
+    pub fn current_cycle(self) -> Cycle
         ensures { λ r. ⌜ r ≡ currentCycle self ⌝ }
     {
         let opened = self.opened;
@@ -92,7 +92,7 @@ impl Clock {
     }
 
     // The list that takes the measurements of a cycle.
-    pub(crate) fn list_of(self, cycle: Cycle) -> SyncList
+    pub fn list_of(self, cycle: Cycle) -> SyncList
         ensures { λ r. ⌜ r ≡ listOf cycle self ⌝ }
     {
         let even = self.even;
@@ -104,7 +104,7 @@ impl Clock {
     }
 
     // The state with another list of a cycle's measurements.
-    pub(crate) fn with_list(self, cycle: Cycle, list: SyncList) -> Clock
+    pub fn with_list(self, cycle: Cycle, list: SyncList) -> Clock
         ensures { λ r. ⌜ r ≡ withList cycle list self ⌝ }
     {
         let mut next = self;

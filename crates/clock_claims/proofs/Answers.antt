@@ -13,15 +13,15 @@ use Rattle.clock.specs.declared.loading.Loading.{Loading}
 use Rattle.clock.specs.declared.loading.Loading.the-variants as loading
 use Rattle.clock.specs.declared.opening.CycleOpening.{CycleOpening}
 use Rattle.clock.specs.declared.opening.CycleOpening.the-variants as opening
-use Rattle.clock.specs.declared.measuring.Measuring.{Measuring}
-use Rattle.clock.specs.declared.measuring.Measuring.the-variants as measuring
-use Rattle.clock.specs.declared.closing.Closing.{Closing}
-use Rattle.clock.specs.declared.closing.Closing.the-variants as closing
 use Rattle.clock.specs.State.{fresh, noClock}
 use Rattle.clock.specs.Loading as load
 use Rattle.clock.specs.Opening as openRule
-use Rattle.clock.specs.Measuring as measure
-use Rattle.clock.specs.Closing as close
+use Rattle.measuring.specs.declared.Measuring.{Measuring}
+use Rattle.measuring.specs.declared.Measuring.the-variants as measuring
+use Rattle.measuring.specs.Measuring as measure
+use Rattle.closing.specs.declared.Closing.{Closing}
+use Rattle.closing.specs.declared.Closing.the-variants as closing
+use Rattle.closing.specs.Closing as close
 use Rattle.clock_claims.specs.Answers.{LoadOne, OpenOne, MeasureOne, CloseOne, LoadInOrder, OpenInOrder, MeasureInOrder, CloseInOrder, LoadField, LoadRefused, OpenRefused, MeasureRefused, CloseRefused}
 
 -- ---- one result: a number names one case, so answers that say the same in 01's numbers are one answer

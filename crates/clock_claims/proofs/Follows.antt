@@ -13,8 +13,8 @@ use Rattle.numbers.proofs.Walk.{cases}
 use Rattle.refusal.specs.Refusal.{_when_, first}
 use Rattle.refusal.proofs.FirstLaws.{first-skip, first-here, first-zero}
 use Rattle.midpoint.specs.Order.{Permuted}
-use Rattle.frame.specs.declared.header.Cycle.{Cycle}
-use Rattle.frame.specs.Refusals.{cycleTooHigh}
+use Rattle.header.specs.declared.Cycle.{Cycle}
+use Rattle.header.specs.Refusals.{cycleTooHigh}
 use Rattle.settings.specs.declared.Settings.{Settings}
 use Rattle.settings.specs.Sheet.{outOfRange, decodingCorrection, syncIdLimit, offsetLimit, rateLimit, driftDamping}
 use Rattle.slot.specs.declared.status.Status.{Status}
@@ -37,10 +37,10 @@ use Rattle.clock.specs.declared.state.Clock.{Clock}
 use Rattle.clock.specs.State.{isThere, cycleIn, isCycle, isOdd, fresh, currentCycle, listOf}
 use Rattle.clock.specs.Sound.{sound}
 use Rattle.clock.specs.Opening.{openingRefusals, keepsEven, evenAfter, openedOn}
-use Rattle.clock.specs.Measuring.{frameOf, delayOn, noSyncFrame, otherCycle, measuredAlready, listFull, deviationBy, measuredOn}
-use Rattle.clock.specs.Measuring as measuring
-use Rattle.clock.specs.Closing.{closingRefusals, offsetFound, storedTerm, rateFound, reportWith, reportOf, closedOn}
 use Rattle.clock.proofs.SoundLaws.{clauses, at-most, count-within}
+use Rattle.measuring.specs.Measuring.{frameOf, delayOn, noSyncFrame, otherCycle, measuredAlready, listFull, deviationBy, measuredOn}
+use Rattle.measuring.specs.Measuring as measuring
+use Rattle.closing.specs.Closing.{closingRefusals, offsetFound, storedTerm, rateFound, reportWith, reportOf, closedOn}
 use Rattle.clock_claims.specs.Typed.{TypedList}
 use Rattle.clock_claims.specs.Histories.{InUse, Since, justLoaded, ofCycles, ofCycle, keptOf, current, ofCurrent, afterOpening, isFull, deviationIn, afterMeasuring, offsetIn, rateIn, reportIn, afterClosing, openRefusals, measureRefusals, closeRefusals, isEven, HoldsSince}
 use Rattle.clock_claims.proofs.InUse.{Every, every, cycles-same, kept-every, kept-all, cycles-none, cycles-more, cycles-other, cycles-nil, odd-not-even, before-odd, OfOpen, OfClosed, open-closed, own-open, before-open}

@@ -8,8 +8,8 @@ use lib.IntN.{ℤ, pos}
 use Rattle.numbers.proofs.Walk.{cases}
 use Rattle.refusal.specs.Refusal.{first, ifAccepted}
 use Rattle.refusal.proofs.FirstLaws.{first-skip, first-here, first-end, first-zero, if-accepted}
-use Rattle.frame.specs.declared.header.Cycle.{Cycle}
-use Rattle.frame.specs.Refusals.{cycleTooHigh}
+use Rattle.header.specs.declared.Cycle.{Cycle}
+use Rattle.header.specs.Refusals.{cycleTooHigh}
 use Rattle.settings.specs.declared.Settings.{Settings}
 use Rattle.settings.specs.Sheet.{outOfRange}
 use Rattle.slot.specs.declared.status.Status.{Status}
@@ -18,19 +18,19 @@ use Rattle.correction.specs.declared.microtick.Microtick.{Microtick}
 use Rattle.clock.specs.declared.state.Clock.{Clock}
 use Rattle.clock.specs.declared.loading.Loaded.{Loaded}
 use Rattle.clock.specs.declared.opening.CycleOpened.{CycleOpened}
-use Rattle.clock.specs.declared.measuring.FrameMeasured.{FrameMeasured}
-use Rattle.clock.specs.declared.closing.Report.{Report}
-use Rattle.clock.specs.declared.closing.CycleClosed.{CycleClosed}
 use Rattle.clock.specs.State.{isThere, fresh, noClock}
 use Rattle.clock.specs.Sound.{sound}
 use Rattle.clock.specs.Loading as loading
 use Rattle.clock.specs.Loading.{LoadSays, loadRefusals}
 use Rattle.clock.specs.Opening as opening
 use Rattle.clock.specs.Opening.{OpenCycleSays, openingRefusals, openedOn}
-use Rattle.clock.specs.Measuring as measuring
-use Rattle.clock.specs.Measuring.{MeasureSays, deviationBy, measuredOn}
-use Rattle.clock.specs.Closing as closing
-use Rattle.clock.specs.Closing.{CloseSays, closingRefusals, reportOf, closedOn, noReport}
+use Rattle.measuring.specs.declared.FrameMeasured.{FrameMeasured}
+use Rattle.measuring.specs.Measuring as measuring
+use Rattle.measuring.specs.Measuring.{MeasureSays, deviationBy, measuredOn}
+use Rattle.closing.specs.declared.Report.{Report}
+use Rattle.closing.specs.declared.CycleClosed.{CycleClosed}
+use Rattle.closing.specs.Closing as closing
+use Rattle.closing.specs.Closing.{CloseSays, closingRefusals, reportOf, closedOn, noReport}
 use Rattle.clock_claims.specs.Histories.{Call, load, openCycle, measure, closeCycle, Answer, loaded, opened, measured, closed, Since, Past, nothing, since, justLoaded, afterOpening, deviationIn, afterMeasuring, reportIn, afterClosing, openRefusals, measureRefusals, closeRefusals, next, answer, pastOf, answersOf, Makes, MakesAll, Holds, Histories, SinceLoad, LoadFresh}
 use Rattle.clock_claims.proofs.Answers.{load-one, open-one, measure-one, close-one}
 use Rattle.clock_claims.proofs.Sound.{no-clock-unsound}

@@ -14,7 +14,7 @@ use Rattle.numbers.proofs.Truth.{both-true, true-both, neither}
 use Rattle.numbers.proofs.Walk.{cases}
 use Rattle.checksum.specs.declared.Channel.{Channel}
 use Rattle.checksum.specs.declared.Channel.the-variants.{A, B}
-use Rattle.frame.specs.Refusals.{notAnId}
+use Rattle.header.specs.Refusals.{notAnId}
 use Rattle.correction.specs.Microtick.{lowestDeviation, highestDeviation}
 use Rattle.sync_list.specs.declared.row.Measured.{Measured}
 use Rattle.sync_list.specs.declared.row.Measured.the-variants.{Nothing, Is}

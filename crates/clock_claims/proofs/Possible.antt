@@ -9,7 +9,7 @@ use lib.IntN.{ℤ, pos}
 use Rattle.numbers.proofs.Walk.{cases}
 use Rattle.refusal.specs.Refusal.{Line, _when_, first, ifAccepted}
 use Rattle.refusal.proofs.FirstLaws.{first-skip, first-here, first-end}
-use Rattle.frame.specs.declared.header.Cycle.{Cycle}
+use Rattle.header.specs.declared.Cycle.{Cycle}
 use Rattle.settings.specs.declared.Settings.{Settings}
 use Rattle.settings.specs.Sheet.{firstOutOfRange, outOfRange}
 use Rattle.slot.specs.declared.status.Status.{Status}
@@ -18,15 +18,15 @@ use Rattle.clock.specs.declared.state.Clock.{Clock}
 use Rattle.clock.specs.declared.loading.Loaded.{Loaded}
 use Rattle.clock.specs.declared.loading.Loading.the-variants as loading
 use Rattle.clock.specs.declared.opening.CycleOpened.{CycleOpened}
-use Rattle.clock.specs.declared.measuring.FrameMeasured.{FrameMeasured}
-use Rattle.clock.specs.declared.closing.CycleClosed.{CycleClosed}
 use Rattle.clock.specs.State.{fresh, noClock}
 use Rattle.clock.specs.Loading as load
 use Rattle.clock.specs.Opening as openRule
-use Rattle.clock.specs.Measuring as measure
-use Rattle.clock.specs.Closing as close
 use Rattle.clock.proofs.StatementLaws.{load-says}
-use Rattle.clock_claims.specs.Histories.{Call, Answer, loaded, opened, measured, closed, Leaves, MakesAll, Possible}
+use Rattle.measuring.specs.declared.FrameMeasured.{FrameMeasured}
+use Rattle.measuring.specs.Measuring as measure
+use Rattle.closing.specs.declared.CycleClosed.{CycleClosed}
+use Rattle.closing.specs.Closing as close
+use Rattle.clock_claims.specs.Histories.{Call, loaded, opened, measured, closed, Leaves, Possible}
 use Rattle.clock_claims.specs.Histories as call
 use Rattle.clock_claims.proofs.Answers.{openingBy, measuringBy, closingBy}
 

@@ -9,9 +9,9 @@ use lib.ListN.{length, length-set, set}
 use Rattle.numbers.proofs.Truth.{both-true, true-both}
 use Rattle.numbers.proofs.Walk.{cases}
 use Rattle.checksum.specs.declared.Channel.{Channel}
-use Rattle.frame.specs.declared.header.Cycle.{Cycle}
-use Rattle.frame.specs.declared.header.Slot.{Slot}
-use Rattle.frame.specs.Refusals.{notAnId}
+use Rattle.header.specs.declared.Cycle.{Cycle}
+use Rattle.header.specs.declared.Slot.{Slot}
+use Rattle.header.specs.Refusals.{notAnId}
 use Rattle.slot.specs.declared.status.Kept.{Kept}
 use Rattle.slot.specs.declared.status.Kept.the-variants.{Nothing, Frame}
 use Rattle.slot.specs.declared.status.Status.{Status}
@@ -32,8 +32,8 @@ use Rattle.measurements.proofs.AddingLaws.{recorded-count-known, recorded-count
 use Rattle.clock.specs.declared.state.Clock.{Clock}
 use Rattle.clock.specs.State.{isOdd, listOf, withList}
 use Rattle.clock.specs.Sound.{sound}
-use Rattle.clock.specs.Measuring.{frameOf}
 use Rattle.clock.proofs.SoundLaws.{clauses, sound-by, count-within, rows-good, ids-different}
+use Rattle.measuring.specs.Measuring.{frameOf}
 use Rattle.clock_claims.specs.Typed.{TypedList}
 
 -- ---- the ID of a frame that a sound status keeps

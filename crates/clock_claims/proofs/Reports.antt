@@ -21,9 +21,9 @@ use Rattle.measurements.proofs.RowLaws.{rows-offset, rows-rate}
 use Rattle.clock.specs.declared.state.Clock.{Clock}
 use Rattle.clock.specs.State.{isOdd, currentCycle, listOf}
 use Rattle.clock.specs.Sound.{sound}
-use Rattle.clock.specs.Closing as closing
-use Rattle.clock.specs.Closing.{closingRefusals, storedTerm, offsetFound, rateFound, reportWith, reportOf, noReport}
 use Rattle.clock.proofs.SoundLaws.{clauses, at-most, rows-good, ids-different}
+use Rattle.closing.specs.Closing as closing
+use Rattle.closing.specs.Closing.{closingRefusals, storedTerm, offsetFound, rateFound, reportWith, reportOf, noReport}
 use Rattle.clock_claims.specs.Typed.{TypedList}
 use Rattle.clock_claims.specs.Reports.{ReportedOver}
 use Rattle.clock_claims.proofs.Recorded.{list-of-sound, list-of-typed}

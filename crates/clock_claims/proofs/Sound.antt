@@ -9,7 +9,7 @@ use lib.IntN.{pos, negℤ}
 use lib.Signed.{leZ, ltZ}
 use Rattle.numbers.proofs.Signed.{le-sums, sums-le, sums-nlt, nlt-sums}
 use Rattle.numbers.proofs.Truth.{neither}
-use Rattle.frame.specs.Refusals.{cycleTooHigh}
+use Rattle.header.specs.Refusals.{cycleTooHigh}
 use Rattle.settings.specs.declared.Settings.{Settings}
 use Rattle.settings.specs.Sheet.{firstOutside, firstOutOfRange, outOfRange, syncIdLimit, rateLimit}
 use Rattle.slot_claims.specs.Sheet.{AllInRange, TypedSettings}

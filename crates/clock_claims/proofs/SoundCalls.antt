@@ -1,5 +1,5 @@
 -- Every accepted call returns a sound state.
-use Prim.Native.Nat.{ℕ, _<_}
+use Prim.Native.Nat.{ℕ}
 use mathlib.Core.Path.{_≡_, refl, sym, ap, _∙_}
 use mathlib.Core.Bool.{Bool, true, false, false≢true, not, _&&_, _||_, cond}
 use mathlib.Core.List.{[]}
@@ -11,8 +11,8 @@ use Rattle.numbers.proofs.Truth.{both-true, true-both, neither}
 use Rattle.numbers.proofs.Walk.{cases}
 use Rattle.refusal.specs.Refusal.{first}
 use Rattle.refusal.proofs.FirstLaws.{first-zero, if-accepted}
-use Rattle.frame.specs.declared.header.Cycle.{Cycle}
-use Rattle.frame.specs.Refusals.{cycleTooHigh}
+use Rattle.header.specs.declared.Cycle.{Cycle}
+use Rattle.header.specs.Refusals.{cycleTooHigh}
 use Rattle.settings.specs.declared.Settings.{Settings}
 use Rattle.settings.specs.Sheet.{outOfRange, syncIdLimit, rateLimit}
 use Rattle.slot.specs.declared.status.Status.{Status}
@@ -29,12 +29,13 @@ use Rattle.clock.specs.State.{fresh, isThere, cycleIn, currentCycle, listOf}
 use Rattle.clock.specs.Sound.{cycleSound, sound}
 use Rattle.clock.specs.Loading as loading
 use Rattle.clock.specs.Opening.{openingRefusals, keepsEven, openedOn}
-use Rattle.clock.specs.Measuring as measuring
-use Rattle.clock.specs.Measuring.{frameOf, noSyncFrame, otherCycle, measuredAlready, listFull, deviationBy, measureRefusals, measuredOn}
-use Rattle.clock.specs.Closing as closing
-use Rattle.clock.specs.Closing.{closingRefusals, rateFound, closedOn}
 use Rattle.clock.proofs.SoundLaws.{clauses, sound-by, near-inside, at-most}
-use Rattle.clock.proofs.RangeLaws.{zero-near, found-near, deviation-ranged}
+use Rattle.measuring.specs.Measuring as measuring
+use Rattle.measuring.specs.Measuring.{frameOf, noSyncFrame, otherCycle, measuredAlready, listFull, deviationBy, measureRefusals, measuredOn}
+use Rattle.measuring.proofs.DeviationLaws.{deviation-ranged}
+use Rattle.closing.specs.Closing as closing
+use Rattle.closing.specs.Closing.{closingRefusals, rateFound, closedOn}
+use Rattle.closing.proofs.RangeLaws.{zero-near, found-near}
 use Rattle.clock_claims.specs.Typed.{TypedList}
 use Rattle.clock_claims.proofs.Recorded.{frame-id, recorded-good, with-list-sound, list-of-sound, list-of-typed}
 use Rattle.clock_claims.specs.Sound.{LoadedSound, OpenedSound, MeasuredSound, ClosedSound}

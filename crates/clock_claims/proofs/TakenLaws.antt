@@ -13,7 +13,7 @@ use Rattle.midpoint.specs.Order.{Permuted}
 use Rattle.midpoint.proofs.OrderLaws.{permuted-length}
 use Rattle.checksum.specs.declared.Channel.{Channel}
 use Rattle.checksum.specs.declared.Channel.the-variants.{A, B}
-use Rattle.frame.specs.declared.header.Slot.{Slot}
+use Rattle.header.specs.declared.Slot.{Slot}
 use Rattle.settings.specs.declared.Settings.{Settings}
 use Rattle.settings.specs.Sheet.{syncIdLimit}
 use Rattle.sync_list.specs.declared.row.Measured.{Measured}

@@ -6,7 +6,7 @@ use Rattle.numbers.proofs.Walk.{cases}
 use Rattle.sync_list.specs.Lists.{empty, recorded}
 use Rattle.clock.specs.State.{isOdd, currentCycle, listOf}
 use Rattle.clock.specs.Opening.{keepsEven}
-use Rattle.clock.specs.Measuring.{frameOf}
+use Rattle.measuring.specs.Measuring.{frameOf}
 use Rattle.clock_claims.specs.Typed.{TypedList, TypedAgain}
 use Rattle.clock_claims.proofs.Recorded.{list-of-typed, recorded-typed}
 

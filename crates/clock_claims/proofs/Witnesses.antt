@@ -6,7 +6,7 @@ use borrow.Author.Tests.{eq-eqb, ne-eqb}
 use lib.IntN.{ℤ, pos}
 use Rattle.refusal.specs.Refusal.{first}
 use Rattle.refusal.proofs.FirstLaws.{if-accepted}
-use Rattle.frame.specs.declared.header.Cycle.{Cycle}
+use Rattle.header.specs.declared.Cycle.{Cycle}
 use Rattle.settings.specs.declared.Settings.{Settings}
 use Rattle.slot.specs.declared.status.Status.{Status}
 use Rattle.slot_claims.specs.Sheet.{TypedSettings}
@@ -14,17 +14,17 @@ use Rattle.correction.specs.declared.microtick.Microtick.{Microtick}
 use Rattle.clock.specs.declared.state.Clock.{Clock}
 use Rattle.clock.specs.declared.loading.Loaded.{Loaded}
 use Rattle.clock.specs.declared.opening.CycleOpened.{CycleOpened}
-use Rattle.clock.specs.declared.measuring.FrameMeasured.{FrameMeasured}
-use Rattle.clock.specs.declared.closing.CycleClosed.{CycleClosed}
 use Rattle.clock.specs.State.{fresh, noClock}
 use Rattle.clock.specs.Loading as loading
 use Rattle.clock.specs.Loading.{LoadSays}
 use Rattle.clock.specs.Opening as opening
 use Rattle.clock.specs.Opening.{OpenCycleSays}
-use Rattle.clock.specs.Measuring as measuring
-use Rattle.clock.specs.Measuring.{MeasureSays}
-use Rattle.clock.specs.Closing as closing
-use Rattle.clock.specs.Closing.{CloseSays}
+use Rattle.measuring.specs.declared.FrameMeasured.{FrameMeasured}
+use Rattle.measuring.specs.Measuring as measuring
+use Rattle.measuring.specs.Measuring.{MeasureSays}
+use Rattle.closing.specs.declared.CycleClosed.{CycleClosed}
+use Rattle.closing.specs.Closing as closing
+use Rattle.closing.specs.Closing.{CloseSays}
 use Rattle.clock_claims.specs.Typed.{TypedClock}
 use Rattle.clock_claims.specs.Histories.{Call, load, openCycle, measure, closeCycle, Answer, closed, nothing, next, answer, pastOf, answersOf, Past, Makes, MakesAll, Holds}
 use Rattle.clock_claims.specs.Witnesses.{LoadedWell, OpenedWell, MeasuredWell, ClosedWell, firstIn, secondIn, controlOf, callOf, MadeBy, Played, ClosedAfter}

@@ -4,7 +4,7 @@
 use mathlib.Core.Path.{_≡_}
 use lib.IntN.{ℤ, pos}
 use Rattle.refusal.specs.Refusal.{InOrder}
-use Rattle.frame.specs.declared.header.Cycle.{Cycle}
+use Rattle.header.specs.declared.Cycle.{Cycle}
 use Rattle.settings.specs.declared.Settings.{Settings}
 use Rattle.slot.specs.declared.status.Status.{Status}
 use Rattle.slot_claims.specs.Sheet.{TypedSettings, FieldTold}
@@ -12,17 +12,17 @@ use Rattle.correction.specs.declared.microtick.Microtick.{Microtick}
 use Rattle.clock.specs.declared.state.Clock.{Clock}
 use Rattle.clock.specs.declared.loading.Loaded.{Loaded}
 use Rattle.clock.specs.declared.opening.CycleOpened.{CycleOpened}
-use Rattle.clock.specs.declared.measuring.FrameMeasured.{FrameMeasured}
-use Rattle.clock.specs.declared.closing.CycleClosed.{CycleClosed}
 use Rattle.clock.specs.State.{noClock}
 use Rattle.clock.specs.Loading as loading
 use Rattle.clock.specs.Loading.{LoadSays}
 use Rattle.clock.specs.Opening as opening
 use Rattle.clock.specs.Opening.{OpenCycleSays}
-use Rattle.clock.specs.Measuring as measuring
-use Rattle.clock.specs.Measuring.{MeasureSays}
-use Rattle.clock.specs.Closing as closing
-use Rattle.clock.specs.Closing.{CloseSays}
+use Rattle.measuring.specs.declared.FrameMeasured.{FrameMeasured}
+use Rattle.measuring.specs.Measuring as measuring
+use Rattle.measuring.specs.Measuring.{MeasureSays}
+use Rattle.closing.specs.declared.CycleClosed.{CycleClosed}
+use Rattle.closing.specs.Closing as closing
+use Rattle.closing.specs.Closing.{CloseSays}
 
 -- ---- any two results that a statement allows are equal: answer, report and whole state
 

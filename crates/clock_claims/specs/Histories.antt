@@ -11,8 +11,8 @@ use lib.ListN.{length}
 use Rattle.refusal.specs.Refusal.{Line, _when_, first, ifAccepted}
 use Rattle.midpoint.specs.Order.{Permuted}
 use Rattle.checksum.specs.declared.Channel.{Channel}
-use Rattle.frame.specs.declared.header.Cycle.{Cycle}
-use Rattle.frame.specs.Refusals.{cycleTooHigh}
+use Rattle.header.specs.declared.Cycle.{Cycle}
+use Rattle.header.specs.Refusals.{cycleTooHigh}
 use Rattle.settings.specs.declared.Settings.{Settings}
 use Rattle.settings.specs.Sheet.{firstOutOfRange, outOfRange, syncIdLimit, decodingCorrection, offsetLimit, rateLimit, driftDamping}
 use Rattle.slot.specs.declared.status.Status.{Status}
@@ -31,19 +31,19 @@ use Rattle.clock.specs.declared.state.CycleOrNone.the-variants.{NoCycle, Is}
 use Rattle.clock.specs.declared.state.Clock.{Clock}
 use Rattle.clock.specs.declared.loading.Loaded.{Loaded}
 use Rattle.clock.specs.declared.opening.CycleOpened.{CycleOpened}
-use Rattle.clock.specs.declared.measuring.FrameMeasured.{FrameMeasured}
-use Rattle.clock.specs.declared.closing.Report.{Report}
-use Rattle.clock.specs.declared.closing.CycleClosed.{CycleClosed}
 use Rattle.clock.specs.State.{isThere, cycleIn, isCycle, isOdd, noClock}
 use Rattle.clock.specs.Sound.{sound}
 use Rattle.clock.specs.Loading as loading
 use Rattle.clock.specs.Loading.{LoadSays}
 use Rattle.clock.specs.Opening as opening
 use Rattle.clock.specs.Opening.{OpenCycleSays}
-use Rattle.clock.specs.Measuring as measuring
-use Rattle.clock.specs.Measuring.{frameOf, noSyncFrame, delayOn, MeasureSays}
-use Rattle.clock.specs.Closing as closing
-use Rattle.clock.specs.Closing.{storedTerm, reportWith, noReport, CloseSays}
+use Rattle.measuring.specs.declared.FrameMeasured.{FrameMeasured}
+use Rattle.measuring.specs.Measuring as measuring
+use Rattle.measuring.specs.Measuring.{frameOf, noSyncFrame, delayOn, MeasureSays}
+use Rattle.closing.specs.declared.Report.{Report}
+use Rattle.closing.specs.declared.CycleClosed.{CycleClosed}
+use Rattle.closing.specs.Closing as closing
+use Rattle.closing.specs.Closing.{storedTerm, reportWith, noReport, CloseSays}
 
 -- ---- calls
 

@@ -12,10 +12,10 @@ use Rattle.sync_list.specs.Lists.{listed}
 use Rattle.measurements.specs.Measurements.{Taken, standsFor, differentIds}
 use Rattle.measurements.specs.Terms.{offsetValuesOf, rateValuesOf}
 use Rattle.clock.specs.declared.state.Clock.{Clock}
-use Rattle.clock.specs.declared.closing.CycleClosed.{CycleClosed}
 use Rattle.clock.specs.State.{isOdd, currentCycle, listOf}
-use Rattle.clock.specs.Closing as closing
-use Rattle.clock.specs.Closing.{storedTerm, reportWith, CloseSays}
+use Rattle.closing.specs.declared.CycleClosed.{CycleClosed}
+use Rattle.closing.specs.Closing as closing
+use Rattle.closing.specs.Closing.{storedTerm, reportWith, CloseSays}
 use Rattle.clock_claims.specs.Typed.{TypedClock}
 
 -- Whatever order the measurements of the closed cycle and those of the even list come in, the report is that of 01's rules over them.

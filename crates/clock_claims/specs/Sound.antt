@@ -9,7 +9,7 @@ use mathlib.Core.Logic.{_↔_}
 use lib.IntN.{ℤ, pos, negℤ}
 use lib.ListN.{length}
 use lib.Signed.{leZ}
-use Rattle.frame.specs.declared.header.Cycle.{Cycle}
+use Rattle.header.specs.declared.Cycle.{Cycle}
 use Rattle.settings.specs.declared.Settings.{Settings}
 use Rattle.settings.specs.Sheet.{syncIdLimit, rateLimit}
 use Rattle.slot.specs.declared.status.Status.{Status}
@@ -26,18 +26,18 @@ use Rattle.clock.specs.declared.state.CycleOrNone.the-variants.{Is}
 use Rattle.clock.specs.declared.state.Clock.{Clock}
 use Rattle.clock.specs.declared.loading.Loaded.{Loaded}
 use Rattle.clock.specs.declared.opening.CycleOpened.{CycleOpened}
-use Rattle.clock.specs.declared.measuring.FrameMeasured.{FrameMeasured}
-use Rattle.clock.specs.declared.closing.CycleClosed.{CycleClosed}
 use Rattle.clock.specs.State.{noClock}
 use Rattle.clock.specs.Sound.{sound}
 use Rattle.clock.specs.Loading as loading
 use Rattle.clock.specs.Loading.{LoadSays}
 use Rattle.clock.specs.Opening as opening
 use Rattle.clock.specs.Opening.{OpenCycleSays}
-use Rattle.clock.specs.Measuring as measuring
-use Rattle.clock.specs.Measuring.{MeasureSays}
-use Rattle.clock.specs.Closing as closing
-use Rattle.clock.specs.Closing.{CloseSays}
+use Rattle.measuring.specs.declared.FrameMeasured.{FrameMeasured}
+use Rattle.measuring.specs.Measuring as measuring
+use Rattle.measuring.specs.Measuring.{MeasureSays}
+use Rattle.closing.specs.declared.CycleClosed.{CycleClosed}
+use Rattle.closing.specs.Closing as closing
+use Rattle.closing.specs.Closing.{CloseSays}
 use Rattle.clock_claims.specs.Typed.{TypedClock}
 
 -- ---- a list of measurements

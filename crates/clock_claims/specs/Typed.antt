@@ -2,7 +2,7 @@
 use mathlib.Core.Path.{_≡_}
 use lib.ListN.{length}
 use lib.IntN.{ℤ}
-use Rattle.frame.specs.declared.header.Cycle.{Cycle}
+use Rattle.header.specs.declared.Cycle.{Cycle}
 use Rattle.settings.specs.declared.Settings.{Settings}
 use Rattle.slot.specs.declared.status.Status.{Status}
 use Rattle.slot_claims.specs.Sheet.{TypedSettings}
@@ -11,8 +11,8 @@ use Rattle.sync_list.specs.Lists.{rowCount}
 use Rattle.clock.specs.declared.state.Clock.{Clock}
 use Rattle.clock.specs.State.{fresh, noClock}
 use Rattle.clock.specs.Opening.{openedOn}
-use Rattle.clock.specs.Measuring.{measuredOn}
-use Rattle.clock.specs.Closing.{closedOn}
+use Rattle.measuring.specs.Measuring.{measuredOn}
+use Rattle.closing.specs.Closing.{closedOn}
 
 -- A list has fifteen rows.
 abbrev pub TypedList : SyncList → Type 0

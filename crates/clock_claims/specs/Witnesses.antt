@@ -6,7 +6,7 @@ use mathlib.Core.List.{List, map}
 use lib.Dec.{eqb}
 use lib.IntN.{ℤ, pos, negℤ}
 use Rattle.refusal.specs.Refusal.{InOrder}
-use Rattle.frame.specs.declared.header.Cycle.{Cycle}
+use Rattle.header.specs.declared.Cycle.{Cycle}
 use Rattle.settings.specs.declared.Settings.{Settings}
 use Rattle.slot.specs.declared.status.Status.{Status}
 use Rattle.slot_claims.specs.Sheet.{FieldTold}
@@ -14,14 +14,14 @@ use Rattle.correction.specs.declared.microtick.Microtick.{Microtick}
 use Rattle.clock.specs.declared.state.Clock.{Clock}
 use Rattle.clock.specs.declared.loading.Loaded.{Loaded}
 use Rattle.clock.specs.declared.opening.CycleOpened.{CycleOpened}
-use Rattle.clock.specs.declared.measuring.FrameMeasured.{FrameMeasured}
-use Rattle.clock.specs.declared.closing.CycleClosed.{CycleClosed}
 use Rattle.clock.specs.State.{fresh, noClock}
 use Rattle.clock.specs.Sound.{sound}
 use Rattle.clock.specs.Loading as loading
 use Rattle.clock.specs.Opening as opening
-use Rattle.clock.specs.Measuring as measuring
-use Rattle.clock.specs.Closing as closing
+use Rattle.measuring.specs.declared.FrameMeasured.{FrameMeasured}
+use Rattle.measuring.specs.Measuring as measuring
+use Rattle.closing.specs.declared.CycleClosed.{CycleClosed}
+use Rattle.closing.specs.Closing as closing
 use Rattle.clock_claims.specs.Histories.{Call, load, openCycle, measure, closeCycle, Answer, closed, nothing, answer, next, pastOf, MakesAll, Holds, JustLoaded}
 
 -- ---- one call

@@ -7,12 +7,12 @@ ghost use Rattle.clock_claims.specs.Sound.{SoundClock};
 ghost use Rattle.clock_claims.specs.Histories.{Leaves};
 ghost use Rattle.clock_claims.specs.Witnesses.{LoadedWell, OpenedWell, MeasuredWell, ClosedWell, controlOf, callOf, callsOf, Played, ClosedAfter};
 use clock::Clock;
-use clock::CycleClosed;
 use clock::CycleOpened;
-use clock::FrameMeasured;
 use clock::Loaded;
+use closing::CycleClosed;
 use correction::Microtick;
-use frame::Cycle;
+use header::Cycle;
+use measuring::FrameMeasured;
 use settings::Settings;
 use slot::Status;
 
@@ -51,13 +51,13 @@ pub fn measured(
 ) -> FrameMeasured
     ensures { λ r. ⌜ MeasuredWell state status observed «action_point» r ⌝ }
 {
-    clock::measure(state, status, observed, action_point)
+    measuring::measure(state, status, observed, action_point)
 }
 
 pub fn closed(state: Clock, offset_control: i32, rate_control: i32) -> CycleClosed
     ensures { λ r. ⌜ ClosedWell state «offset_control» «rate_control» r ⌝ }
 {
-    clock::close_cycle(state, offset_control, rate_control)
+    closing::close_cycle(state, offset_control, rate_control)
 }
 
 // A control from a number: -1, 0, 1, or 2, which is none.
@@ -105,7 +105,7 @@ fn called(
         return result.clock;
     }
     if kind == 3 {
-        let result = clock::measure(
+        let result = measuring::measure(
             state,
             status,
             Microtick(first as u32),
@@ -114,7 +114,7 @@ fn called(
         return result.clock;
     }
     if kind == 4 {
-        let result = clock::measure(
+        let result = measuring::measure(
             state,
             other_status,
             Microtick(first as u32),
@@ -122,7 +122,7 @@ fn called(
         );
         return result.clock;
     }
-    let result = clock::close_cycle(state, control_of(first), control_of(second));
+    let result = closing::close_cycle(state, control_of(first), control_of(second));
     result.clock
 }
 
@@ -160,5 +160,5 @@ pub fn closed_after(
     ensures { λ r. ⌜ ClosedAfter (callsOf sheet «other_sheet» status «other_status» (now (numbers .entry))) «offset_control» «rate_control» r ⌝ }
 {
     let state = played(sheet, other_sheet, status, other_status, numbers);
-    clock::close_cycle(state, offset_control, rate_control)
+    closing::close_cycle(state, offset_control, rate_control)
 }

@@ -1,5 +1,4 @@
 pub mod NumberLaws
-pub mod HeaderLaws
 pub mod ReadLaws
 pub mod OverLaws
 pub mod WriteLaws

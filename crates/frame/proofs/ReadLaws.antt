@@ -1,16 +1,35 @@
--- The payload of bytes, and where it lies.
-use Prim.Native.Nat.{ℕ, zero, suc, _+_, _-_, _≤_, _<_}
+-- The header of bytes, their payload, and where it lies.
+use Prim.Native.Nat.{ℕ, zero, suc, _+_, _*_, _-_, _≤_, _<_}
 use mathlib.Core.Path.{_≡_, refl, sym, ap, _∙_}
 use mathlib.Core.Bool.{Bool, cond}
 use mathlib.Core.List.{List, []}
 use native.Mathlib.Omega.{arith}
-use lib.ListN.{length, take, drop, length-take, drop-of-length-le}
+use lib.ListN.{length, take, drop, length-take, take-append-drop, drop-of-length-le}
 use lib.Seq.{length-take-le, take-add, drop-at}
 use Rattle.refusal.specs.Refusal.{first}
 use Rattle.refusal.proofs.FirstLaws.{first-zero}
+use Rattle.division.specs.Bits.{bits, number, bytesBits}
+use Rattle.division.proofs.BitsLaws.{bits-number}
+use Rattle.division.proofs.BytesLaws.{length-bytes, bytes-append}
 use Rattle.checksum.specs.Channel.{notAChannel}
+use Rattle.header.specs.Layout.{headerIn}
+use Rattle.header.proofs.HeaderLaws.{header-front}
 use Rattle.frame.specs.Refusals.{tooShort}
-use Rattle.frame.specs.Read.{payloadRead, refusals, payloadOffset, partOffset}
+use Rattle.frame.specs.Read.{headerRead, payloadRead, refusals, payloadOffset, partOffset}
+
+-- the header that bytes begin with is that of their first five
+pub length-five : (bytes : List ℕ) → 5 ≤ length bytes → length (bytesBits (take 5 bytes)) ≡ 40
+length-five bytes h = length-bytes (take 5 bytes) ∙ ap (λ (k : ℕ). 8 * k) (length-take-le 5 bytes h)
+
+pub header-of-five : (bytes : List ℕ) → 5 ≤ length bytes → headerRead bytes ≡ headerIn (bytesBits (take 5 bytes))
+header-of-five bytes h =
+    ap headerIn (ap bytesBits (sym (take-append-drop 5 bytes)) ∙ bytes-append (take 5 bytes) (drop 5 bytes))
+    ∙ header-front (bytesBits (take 5 bytes)) (bytesBits (drop 5 bytes)) (length-five bytes h)
+
+-- and of the number that they make
+pub header-of-number : (bytes : List ℕ) → 5 ≤ length bytes → headerIn (bits 40 (number (bytesBits (take 5 bytes)))) ≡ headerRead bytes
+header-of-number bytes h =
+    ap headerIn (bits-number 40 (bytesBits (take 5 bytes)) (length-five bytes h)) ∙ sym (header-of-five bytes h)
 
 -- from 5 up to size minus 3 there are 8 bytes fewer than the size, those from byte 5 on
 pub payload-from-5 : (bytes : List ℕ) → 8 ≤ length bytes → take (length bytes - 8) (drop 5 bytes) ≡ payloadRead bytes

@@ -13,10 +13,10 @@ use Rattle.division.proofs.BytesLaws.{length-bytes-of}
 use Rattle.checksum.specs.declared.Channel.{Channel}
 use Rattle.checksum.specs.Channel.{channelOf}
 use Rattle.checksum.specs.Checksums.{frameChecksum}
-use Rattle.frame.specs.declared.header.Fields.{Fields}
+use Rattle.header.specs.declared.Fields.{Fields}
+use Rattle.header.specs.Layout.{wholeHeader}
 use Rattle.frame.specs.declared.writer.Writing.{Writing}
 use Rattle.frame.specs.declared.writer.Writing.the-variants.{Written}
-use Rattle.frame.specs.Layout.{wholeHeader}
 use Rattle.frame.specs.Refusals.{badPayload}
 use Rattle.frame.specs.Write.{headerOf, headerAndPayload, frameBytes, over, refused, told, refusal, WriteSays}
 

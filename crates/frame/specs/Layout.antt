@@ -1,31 +1,18 @@
--- What a frame is (01, "Frame layout"): which bits its fields make, in the order in which they are sent.
+-- What a frame is (01, "Frame layout"): which bits its header, payload and trailer make, in the order in which they are sent.
 use Prim.Native.Nat.{ℕ, _*_, _≤_}
 use mathlib.Core.Path.{_≡_}
 use mathlib.Core.Bool.{Bool, true}
-use mathlib.Core.List.{List, _∷_, _++_}
+use mathlib.Core.List.{List, _++_}
 use lib.ListN.{length}
 use Rattle.division.specs.Bits.{bits, bytesBits, AreBytes}
 use Rattle.checksum.specs.declared.Channel.{Channel}
-use Rattle.checksum.specs.Checksums.{headerChecksum, frameDivision}
-use Rattle.frame.specs.declared.header.Header.{Header}
-
--- "payload length in 2-byte words, 0 to 127".
-abbrev pub mostWords : ℕ
-mostWords = 127
-
--- The table of 01: five indicators of one bit, 11 bits of frame ID, 7 of payload length, 11 of header checksum, 6 of cycle.
-abbrev pub wholeHeader : Header → List Bool
-wholeHeader h =
-    h .reserved ∷ h .preamble ∷ h .«null_frame_bit» ∷ h .sync ∷ h .startup
-    ∷ (bits 11 (h .id .0) ++ (bits 7 (h .words) ++ (bits 11 (h .checksum) ++ bits 6 (h .cycle .0))))
+use Rattle.checksum.specs.Checksums.{frameDivision}
+use Rattle.header.specs.declared.Header.{Header}
+use Rattle.header.specs.Layout.{mostWords, wholeHeader, headerChecksumOf}
 
 -- "Five header bytes, payload, three trailer bytes".
 abbrev pub frameBits : Header → List ℕ → ℕ → List Bool
 frameBits header payload trailer = wholeHeader header ++ (bytesBits payload ++ bits 24 trailer)
-
--- The header checksum that belongs to a header: "over sync, startup, frame ID, payload length, in that order".
-abbrev pub headerChecksumOf : Header → ℕ
-headerChecksumOf h = headerChecksum (h .sync) (h .startup) (h .id .0) (h .words)
 
 -- The frame checksum that belongs behind a header and a payload: "over the whole header (its checksum included) and the payload".
 abbrev pub frameChecksumOf : Channel → Header → List ℕ → ℕ

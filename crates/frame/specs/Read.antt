@@ -1,42 +1,23 @@
 -- The entries `read` and `payload`: what they answer for a channel number and bytes.
 use Prim.Native.Nat.{ℕ, _+_, _-_}
 use mathlib.Core.Path.{_≡_}
-use mathlib.Core.Bool.{Bool, false, cond}
+use mathlib.Core.Bool.{cond}
 use mathlib.Core.List.{List, [], _∷_}
-use lib.ListN.{length, getD, take, drop}
+use lib.ListN.{length, take, drop}
 use Rattle.refusal.specs.Refusal.{Line, _when_, first, ifAccepted}
 use Rattle.division.specs.Bits.{number, bytesBits}
 use Rattle.checksum.specs.declared.Channel.{Channel}
 use Rattle.checksum.specs.Channel.{notAChannel, channelOf}
-use Rattle.frame.specs.declared.header.Header.{Header}
+use Rattle.header.specs.declared.Header.{Header}
+use Rattle.header.specs.Layout.{headerIn, noHeader}
+use Rattle.header.specs.Refusals.{startupWithoutSync}
 use Rattle.frame.specs.declared.reader.Reading.{Reading}
 use Rattle.frame.specs.declared.reader.Reading.the-variants.{Accepted, NotAChannel, TooShort, BadSize, HeaderChecksumDiffers, WordsNotSize, IdZero, StartupWithoutSync, FrameChecksumDiffers}
-use Rattle.frame.specs.Refusals.{tooShort, badSize, headerChecksumDiffers, wordsNotSize, idZero, startupWithoutSync, frameChecksumDiffers}
+use Rattle.frame.specs.Refusals.{tooShort, badSize, headerChecksumDiffers, wordsNotSize, idZero, frameChecksumDiffers}
 
 -- ---- what is read
 
--- The bit at a place, and the number in `width` bits from a place on. Places count from 0 in sending order.
-abbrev pub flag : ℕ → List Bool → Bool
-flag place x = getD x place false
-
-abbrev pub field : ℕ → ℕ → List Bool → ℕ
-field place width x = number (take width (drop place x))
-
--- The header at the front of bits: five indicators, then each field of 01's table behind those before it.
-unfoldable pub headerIn : List Bool → Header
-headerIn x =
-    record {
-      reserved = flag 0 x;
-      preamble = flag 1 x;
-      «null_frame_bit» = flag 2 x;
-      sync = flag 3 x;
-      startup = flag 4 x;
-      id = record { 0 = field 5 11 x };
-      words = field (5 + 11) 7 x;
-      checksum = field (5 + 11 + 7) 11 x;
-      cycle = record { 0 = field (5 + 11 + 7 + 11) 6 x };
-    }
-
+-- The header that bytes begin with.
 abbrev pub headerRead : List ℕ → Header
 headerRead bytes = headerIn (bytesBits bytes)
 
@@ -49,21 +30,6 @@ abbrev pub trailerRead : List ℕ → ℕ
 trailerRead bytes = number (bytesBits (drop (length bytes - 3) bytes))
 
 -- ---- what reading answers
-
--- All zeros, all flags clear: what comes back beside a refusal.
-abbrev pub noHeader : Header
-noHeader =
-    record {
-      reserved = false;
-      preamble = false;
-      «null_frame_bit» = false;
-      sync = false;
-      startup = false;
-      id = record { 0 = 0 };
-      words = 0;
-      checksum = 0;
-      cycle = record { 0 = 0 };
-    }
 
 -- What an answer says in 01's numbers: the refusal number, 0 for none, and the header.
 pub record Told : Type 0 where

@@ -8,12 +8,13 @@ use Rattle.division.specs.Bits.{bits, bytesOf}
 use Rattle.checksum.specs.declared.Channel.{Channel}
 use Rattle.checksum.specs.Channel.{notAChannel, channelOf}
 use Rattle.checksum.specs.Checksums.{headerChecksum, frameChecksum}
-use Rattle.frame.specs.declared.header.Header.{Header}
-use Rattle.frame.specs.declared.header.Fields.{Fields}
+use Rattle.header.specs.declared.Header.{Header}
+use Rattle.header.specs.declared.Fields.{Fields}
+use Rattle.header.specs.Layout.{wholeHeader}
+use Rattle.header.specs.Refusals.{notAnId, cycleTooHigh, startupWithoutSync}
 use Rattle.frame.specs.declared.writer.Writing.{Writing}
 use Rattle.frame.specs.declared.writer.Writing.the-variants.{Written, NotAChannel, NotAnId, BadPayload, CycleTooHigh, StartupWithoutSync, ReservedSet, OutputTooShort}
-use Rattle.frame.specs.Layout.{wholeHeader}
-use Rattle.frame.specs.Refusals.{notAnId, badPayload, cycleTooHigh, startupWithoutSync, outputTooShort}
+use Rattle.frame.specs.Refusals.{badPayload, outputTooShort}
 
 -- ---- what is written
 

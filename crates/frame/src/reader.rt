@@ -5,10 +5,9 @@ ghost use lib.ListN.{length};
 ghost use denote.Ref.{ptr};
 ghost use Rattle.division.specs.Bits.{number as Bits·number, bytesBits};
 ghost use Rattle.frame.specs.Read.{told, ReadSays, ReadOnSays, PayloadSays, PayloadLies, PartSays, PartLies};
-use crate::header;
-use crate::header::Header;
 use checksum::Channel;
 use checksum::Named;
+use header::Header;
 
 // What reading answers: the header, or what is wrong with the bytes.
 pub enum Reading {

@@ -5,11 +5,10 @@ ghost use lib.ListN.{length};
 ghost use Rattle.frame.specs.Refusals.{badPayload};
 ghost use Rattle.frame.specs.Write.{over, headerOf, frameBytes, told, WriteSays};
 ghost use Rattle.division.specs.Bits.{bits, bytesOf};
-use crate::header;
-use crate::header::Fields;
-use crate::header::Header;
 use checksum::Channel;
 use checksum::Named;
+use header::Fields;
+use header::Header;
 
 // What writing answers: the frame's size, or why no frame was written.
 pub enum Writing {

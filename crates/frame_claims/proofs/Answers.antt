@@ -6,7 +6,7 @@ use lib.ListN.{length, getD}
 use Rattle.refusal.specs.Refusal.{ifAccepted, numbered, InOrder}
 use Rattle.refusal.proofs.FirstLaws.{first-in-order, if-refused}
 use Rattle.checksum.specs.Channel.{channelOf}
-use Rattle.frame.specs.declared.header.Fields.{Fields}
+use Rattle.header.specs.declared.Fields.{Fields}
 use Rattle.frame.specs.declared.reader.Reading.{Reading}
 use Rattle.frame.specs.declared.reader.Reading.the-variants as reading
 use Rattle.frame.specs.declared.writer.Writing.{Writing}

@@ -14,8 +14,9 @@ use Rattle.checksum.specs.declared.Channel.the-variants.{A, B}
 use Rattle.checksum.specs.Channel.{startOf}
 use Rattle.checksum.specs.Checksums.{framePolynomial, frameDivision}
 use Rattle.checksum_claims.proofs.Checksums.{frame-facts, frames-four}
-use Rattle.frame.specs.declared.header.Header.{Header}
-use Rattle.frame.specs.Layout.{wholeHeader, frameChecksumOf, Frame}
+use Rattle.header.specs.declared.Header.{Header}
+use Rattle.header.specs.Layout.{wholeHeader}
+use Rattle.frame.specs.Layout.{frameChecksumOf, Frame}
 use Rattle.frame_claims.specs.Damage.{FramesApart, NotOnBoth}
 use Rattle.frame_claims.proofs.FrameLaws.{frame-size}
 

@@ -1,5 +1,5 @@
 -- The claims about what is accepted and what is written, from the statements and from what reading tries.
-use Prim.Native.Nat.{ℕ, _+_, _*_, _-_, _/_, _%_, _≤_}
+use Prim.Native.Nat.{ℕ, _+_, _*_, _/_, _%_, _≤_}
 use mathlib.Core.Path.{_≡_, refl, sym, ap, ap₂, _∙_, subst}
 use mathlib.Core.Bool.{Bool, true, false, _||_}
 use mathlib.Core.List.{List, [], _∷_, _++_, append-assoc}
@@ -16,12 +16,14 @@ use Rattle.checksum.specs.declared.Channel.{Channel}
 use Rattle.checksum.specs.Channel.{notAChannel, channelOf}
 use Rattle.checksum.specs.Checksums.{frameDivision, frameChecksum}
 use Rattle.checksum.proofs.ChannelLaws.{named-is, is-named, one-channel}
-use Rattle.frame.specs.declared.header.Header.{Header}
-use Rattle.frame.specs.declared.header.Fields.{Fields}
+use Rattle.header.specs.declared.Header.{Header}
+use Rattle.header.specs.declared.Fields.{Fields}
+use Rattle.header.specs.Layout.{wholeHeader, noHeader}
+use Rattle.header.specs.Refusals.{notAnId, cycleTooHigh, startupWithoutSync}
 use Rattle.frame.specs.declared.reader.Reading.the-variants.{Accepted}
 use Rattle.frame.specs.declared.writer.Writing.the-variants.{Written, ReservedSet}
-use Rattle.frame.specs.Layout.{wholeHeader, frameChecksumOf, Frame}
-use Rattle.frame.specs.Refusals.{notAnId, badPayload, cycleTooHigh, startupWithoutSync, outputTooShort}
+use Rattle.frame.specs.Layout.{frameChecksumOf, Frame}
+use Rattle.frame.specs.Refusals.{badPayload, outputTooShort}
 use Rattle.frame.specs.Read as read
 use Rattle.frame.specs.Read.{headerRead, payloadRead, refusalsOn, ReadSays, PayloadSays}
 use Rattle.frame.specs.Write as write
@@ -44,7 +46,7 @@ accepted-header : (channel : ℕ) (bytes : List ℕ) (header : Header) → ReadS
     → header ≡ headerRead bytes
 accepted-header channel bytes header says =
     ap (λ (t : read.Told). t .header) says
-    ∙ if-accepted (first (read.refusals channel bytes)) (headerRead bytes) read.noHeader (accepted-number channel bytes header says)
+    ∙ if-accepted (first (read.refusals channel bytes)) (headerRead bytes) noHeader (accepted-number channel bytes header says)
 
 pub given-part : (channel : ℕ) (bytes part : List ℕ) → first (read.refusals channel bytes) ≡ 0 → PayloadSays channel bytes part
     → part ≡ payloadRead bytes

@@ -13,10 +13,11 @@ use Rattle.division.proofs.BytesLaws.{number-take-lt, length-bytes, bytes-appen
 use Rattle.division.proofs.RegisterLaws.{checksum-lt}
 use Rattle.checksum.specs.declared.Channel.{Channel}
 use Rattle.checksum.specs.Checksums.{headerPolynomial, headerStart, headerBits}
-use Rattle.frame.specs.declared.header.Header.{Header}
-use Rattle.frame.specs.Layout.{wholeHeader, headerChecksumOf, frameChecksumOf, Frame}
-use Rattle.frame.specs.Read.{field, headerIn, payloadRead}
-use Rattle.frame.proofs.HeaderLaws.{whole-fields}
+use Rattle.header.specs.declared.Header.{Header}
+use Rattle.header.specs.Layout.{wholeHeader, headerChecksumOf, field, headerIn}
+use Rattle.frame.specs.Layout.{frameChecksumOf, Frame}
+use Rattle.frame.specs.Read.{payloadRead}
+use Rattle.header.proofs.HeaderLaws.{whole-fields}
 
 -- ---- a header and its 40 bits
 

@@ -17,11 +17,13 @@ use Rattle.division.proofs.RegisterLaws.{checksum-lt}
 use Rattle.checksum.specs.declared.Channel.{Channel}
 use Rattle.checksum.specs.Channel.{startOf}
 use Rattle.checksum.specs.Checksums.{framePolynomial, frameDivision, frameChecksum}
-use Rattle.frame.specs.declared.header.Header.{Header}
-use Rattle.frame.specs.Layout.{wholeHeader, frameChecksumOf, Frame}
-use Rattle.frame.specs.Refusals.{tooShort, badSize, headerChecksumDiffers, wordsNotSize, idZero, startupWithoutSync, frameChecksumDiffers}
-use Rattle.frame.specs.Read.{headerIn, headerRead, payloadRead, trailerRead, refusalsOn}
-use Rattle.frame.proofs.HeaderLaws.{length-five, header-of-five}
+use Rattle.header.specs.declared.Header.{Header}
+use Rattle.header.specs.Layout.{wholeHeader, headerIn}
+use Rattle.header.specs.Refusals.{startupWithoutSync}
+use Rattle.frame.specs.Layout.{frameChecksumOf, Frame}
+use Rattle.frame.specs.Refusals.{tooShort, badSize, headerChecksumDiffers, wordsNotSize, idZero, frameChecksumDiffers}
+use Rattle.frame.specs.Read.{headerRead, payloadRead, trailerRead, refusalsOn}
+use Rattle.frame.proofs.ReadLaws.{length-five, header-of-five}
 use Rattle.frame_claims.proofs.FrameLaws.{length-whole, whole-header, header-whole, length-trailer, three-parts, two-parts, length-payload, header-checksum-small, field-small, frame-size}
 
 -- ---- startup only with sync, as a test and in words

@@ -14,8 +14,8 @@ use Rattle.checksum.specs.declared.Channel.{Channel}
 use Rattle.checksum.specs.declared.Channel.the-variants.{A, B}
 use Rattle.checksum.specs.Channel.{channelOf}
 use Rattle.checksum.proofs.ChannelLaws.{named-is, one-channel}
-use Rattle.frame.specs.declared.header.Header.{Header}
-use Rattle.frame.specs.declared.header.Fields.{Fields}
+use Rattle.header.specs.declared.Header.{Header}
+use Rattle.header.specs.declared.Fields.{Fields}
 use Rattle.frame.specs.declared.reader.Reading.{Reading}
 use Rattle.frame.specs.declared.reader.Reading.the-variants.{Accepted}
 use Rattle.frame.specs.declared.writer.Writing.{Writing}

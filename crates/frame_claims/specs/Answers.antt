@@ -5,7 +5,7 @@ use Prim.Native.Nat.{ℕ}
 use mathlib.Core.Path.{_≡_}
 use mathlib.Core.List.{List, []}
 use Rattle.refusal.specs.Refusal.{InOrder}
-use Rattle.frame.specs.declared.header.Fields.{Fields}
+use Rattle.header.specs.declared.Fields.{Fields}
 use Rattle.frame.specs.declared.reader.Reading.{Reading}
 use Rattle.frame.specs.declared.writer.Writing.{Writing}
 use Rattle.frame.specs.Read as read

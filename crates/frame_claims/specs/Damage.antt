@@ -12,7 +12,7 @@ use Rattle.division.specs.Bits.{bytesBits}
 use Rattle.division.specs.Differing.{differing, firstDiffering, lastDiffering, DifferWithin}
 use Rattle.checksum.specs.declared.Channel.{Channel}
 use Rattle.checksum.specs.declared.Channel.the-variants.{A, B}
-use Rattle.frame.specs.declared.header.Header.{Header}
+use Rattle.header.specs.declared.Header.{Header}
 use Rattle.frame.specs.Layout.{Frame}
 use Rattle.frame_claims.specs.Exact.{IsFrame}
 

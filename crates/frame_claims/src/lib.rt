@@ -7,9 +7,9 @@ ghost use Rattle.frame.specs.Read.{refusals as read·refusals};
 ghost use Rattle.frame.specs.Write.{refusals as write·refusals};
 ghost use Rattle.frame_claims.specs.Damage.{BothAccepted};
 ghost use Rattle.frame_claims.specs.Exact.{fieldsOf, AcceptsFrames, PayloadOf, Wrote, Rewritten, Sent, Reread, RereadPayload};
-use frame::Fields;
-use frame::Header;
 use frame::Reading;
+use header::Fields;
+use header::Header;
 
 // The number that reading gives: the first of 01's order whose condition holds.
 pub fn read_number(channel: u8, bytes: &[u8]) -> u8

@@ -13,8 +13,8 @@ use Rattle.midpoint.specs.Order.{Permuted}
 use Rattle.midpoint.proofs.OrderLaws.{permuted-refl}
 use Rattle.checksum.specs.declared.Channel.{Channel}
 use Rattle.checksum.specs.declared.Channel.the-variants.{A, B}
-use Rattle.frame.specs.declared.header.Slot.{Slot}
-use Rattle.frame.specs.Refusals.{notAnId}
+use Rattle.header.specs.declared.Slot.{Slot}
+use Rattle.header.specs.Refusals.{notAnId}
 use Rattle.correction.specs.Microtick.{isDeviation}
 use Rattle.sync_list.specs.declared.row.Measured.{Measured}
 use Rattle.sync_list.specs.declared.row.Measured.the-variants.{Nothing, Is}

@@ -10,8 +10,8 @@ use Rattle.numbers.proofs.Truth.{both-true}
 use Rattle.numbers.proofs.Walk.{cases}
 use Rattle.checksum.specs.declared.Channel.{Channel}
 use Rattle.checksum.specs.declared.Channel.the-variants.{A, B}
-use Rattle.frame.specs.declared.header.Slot.{Slot}
-use Rattle.frame.specs.Refusals.{notAnId}
+use Rattle.header.specs.declared.Slot.{Slot}
+use Rattle.header.specs.Refusals.{notAnId}
 use Rattle.correction.specs.declared.value.Value.{Value}
 use Rattle.correction.specs.declared.value.Value.the-variants as value
 use Rattle.correction.specs.Values.{smaller, offsetValue, rateValue}

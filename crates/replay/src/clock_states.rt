@@ -1,56 +1,44 @@
 // A clock state in a script, and in a line.
-use crate::held::Held;
+use crate::item;
+use crate::item::Item;
 use crate::line;
 use crate::lists;
 use crate::script;
 use crate::sheet;
-use crate::turn::Turn;
 use clock::Clock;
 use clock::CycleOrNone;
 use correction::SignedMicrotick;
-use frame::Cycle;
+use header::Cycle;
+
+// The places of an item, behind the sheet. A cycle stands behind each of the two switches.
+const OPEN: usize = sheet::SIZE;
+
+const CLOSED: usize = OPEN + 2;
+
+const RATE: usize = CLOSED + 2;
+
+const EVEN: usize = RATE + 4;
+
+const ODD: usize = EVEN + lists::SIZE;
+
+// How many bytes a clock state has.
+pub const SIZE: usize = ODD + lists::SIZE;
+
+pub fn is_right(item: Item) -> bool {
+    sheet::is_right(item) && item::is_switch(item[OPEN]) && item::is_switch(item[CLOSED])
+}
 
 // `K`: settings, open switch, cycle, closed switch, last, rate, even list, odd list.
-pub fn put(held: Held) -> Turn {
-    let taken = sheet::take();
-    if taken.is_script_error {
-        return Turn::script_error(held);
+pub fn put(item: Item) -> Clock {
+    line::write_words(b"clock put");
+    Clock {
+        settings: sheet::of(item),
+        even: lists::of(item, EVEN),
+        odd: lists::of(item, ODD),
+        opened: cycle_behind(item[OPEN], item[OPEN + 1]),
+        last_closed: cycle_behind(item[CLOSED], item[CLOSED + 1]),
+        rate: SignedMicrotick(script::signed(item::long(item, RATE))),
     }
-    // The open switch and its cycle, the closed switch and its cycle.
-    let mut item = [0u8; 4];
-    if !script::take(&mut item) {
-        return Turn::script_error(held);
-    }
-    if script::is_no_switch(item[0]) {
-        return Turn::script_error(held);
-    }
-    if script::is_no_switch(item[2]) {
-        return Turn::script_error(held);
-    }
-    let rate = script::take_long();
-    if rate.is_script_error {
-        return Turn::script_error(held);
-    }
-    let taken_even = lists::take();
-    if taken_even.is_script_error {
-        return Turn::script_error(held);
-    }
-    let taken_odd = lists::take();
-    if taken_odd.is_script_error {
-        return Turn::script_error(held);
-    }
-    let settings = taken.settings;
-    let even = taken_even.list;
-    let odd = taken_odd.list;
-    answer_put();
-    Turn::played(held.with_clock(Clock {
-        settings,
-        even,
-        odd,
-        opened: cycle_behind(item[0], item[1]),
-        last_closed: cycle_behind(item[2], item[3]),
-        rate: SignedMicrotick(script::signed(rate.value)),
-    }))
 }
 
 // The cycle behind a switch, which is looked at only where the switch is 1.
@@ -59,13 +47,6 @@ fn cycle_behind(switch: u8, cycle: u8) -> CycleOrNone {
         return CycleOrNone::NoCycle;
     }
     CycleOrNone::Is(Cycle(cycle))
-}
-
-// `clock put`
-fn answer_put() {
-    let mut line = [0u8; line::ROOM];
-    let at = line::put(&mut line, 0, b"clock put");
-    line::end(&mut line, at);
 }
 
 // `clock F1 .. F11 SENDS OPEN CYCLE CLOSED LAST RATE EVEN n (ID SEEN A B)*n ODD n (ID SEEN A B)*n`
@@ -89,6 +70,6 @@ pub fn show(clock: Clock) {
 // Puts a switch and the cycle behind it, zeros where there is none.
 fn put_cycle(line: &mut [u8; line::ROOM], at: usize, cycle: CycleOrNone) -> usize {
     let number = cycle.cycle();
-    let at = line::decimal(line, at, cycle.is_there() as u64);
-    line::decimal(line, at, number.0 as u64)
+    let numbers = [cycle.is_there() as u64, number.0 as u64];
+    line::decimals(line, at, &numbers)
 }

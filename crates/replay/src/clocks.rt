@@ -1,81 +1,72 @@
-// The commands on the clock: loading, opening a cycle, measuring and closing. Each takes what stands behind its letter, writes its
-// line and answers with what is held from then on.
-use crate::held::Held;
+// The commands on the clock: loading, opening a cycle, measuring and closing. Each is handed the item behind its letter, writes
+// its line and answers with the clock state that is held from then on.
+use crate::clock_states;
+use crate::item;
+use crate::item::Item;
 use crate::line;
 use crate::script;
 use crate::sheet;
-use crate::turn::Turn;
-use clock::CycleClosed;
-use clock::CycleOpened;
-use clock::FrameMeasured;
-use clock::Loaded;
+use clock::Clock;
+use clock::CycleOpening;
+use clock::Loading;
+use closing::Closing;
 use correction::Microtick;
-use frame::Cycle;
+use header::Cycle;
+use measuring::Measuring;
+use slot::Status;
+
+// Plays the command on the clock that has this letter; any other leaves the clock state as it is.
+pub fn play(letter: u8, item: Item, clock: Clock, status: Status) -> Clock {
+    match letter {
+        b'L' => load(item),
+        b'O' => open_cycle(item, clock),
+        b'M' => measure(item, clock, status),
+        b'C' => close_cycle(item, clock),
+        b'K' => clock_states::put(item),
+        _ => clock,
+    }
+}
 
 // `L`: settings.
-pub fn load(held: Held) -> Turn {
-    let taken = sheet::take();
-    if taken.is_script_error {
-        return Turn::script_error(held);
-    }
-    let loaded = clock::load(taken.settings);
-    answer_loading(loaded);
-    Turn::played(held.with_clock(loaded.clock))
+fn load(item: Item) -> Clock {
+    let loaded = clock::load(sheet::of(item));
+    let answer = loaded.answer;
+    answer_loading(answer);
+    loaded.clock
 }
 
 // `load N FIELD`
-fn answer_loading(loaded: Loaded) {
-    let answer = loaded.answer;
-    let mut line = [0u8; line::ROOM];
-    let at = line::put(&mut line, 0, b"load");
-    let at = line::decimal(&mut line, at, answer.number() as u64);
-    let at = line::decimal(&mut line, at, answer.field() as u64);
-    line::end(&mut line, at);
+fn answer_loading(answer: Loading) {
+    let numbers = [answer.number() as u64, answer.field() as u64];
+    line::write(b"load", &numbers);
 }
 
 // `O`: cycle.
-pub fn open_cycle(held: Held) -> Turn {
-    let mut item = [0u8; 1];
-    if !script::take(&mut item) {
-        return Turn::script_error(held);
-    }
-    let opened = clock::open_cycle(held.clock, Cycle(item[0]));
-    answer_opening(opened);
-    Turn::played(held.with_clock(opened.clock))
+fn open_cycle(item: Item, clock: Clock) -> Clock {
+    let opened = clock::open_cycle(clock, Cycle(item[0]));
+    let answer = opened.answer;
+    answer_opening(answer);
+    opened.clock
 }
 
 // `open N`
-fn answer_opening(opened: CycleOpened) {
-    let answer = opened.answer;
-    let mut line = [0u8; line::ROOM];
-    let at = line::put(&mut line, 0, b"open");
-    let at = line::decimal(&mut line, at, answer.number() as u64);
-    line::end(&mut line, at);
+fn answer_opening(answer: CycleOpening) {
+    let numbers = [answer.number() as u64];
+    line::write(b"open", &numbers);
 }
 
 // `M`: observed time, action point. The frame is that of the status that is held.
-pub fn measure(held: Held) -> Turn {
-    let observed = script::take_long();
-    if observed.is_script_error {
-        return Turn::script_error(held);
-    }
-    let action_point = script::take_long();
-    if action_point.is_script_error {
-        return Turn::script_error(held);
-    }
-    let measured = clock::measure(
-        held.clock,
-        held.status,
-        Microtick(observed.value),
-        Microtick(action_point.value),
-    );
-    answer_measuring(measured);
-    Turn::played(held.with_clock(measured.clock))
+fn measure(item: Item, clock: Clock, status: Status) -> Clock {
+    let observed = Microtick(item::long(item, 0));
+    let action_point = Microtick(item::long(item, 4));
+    let measured = measuring::measure(clock, status, observed, action_point);
+    let answer = measured.answer;
+    answer_measuring(answer);
+    measured.clock
 }
 
 // `measure N DEVIATION`
-fn answer_measuring(measured: FrameMeasured) {
-    let answer = measured.answer;
+fn answer_measuring(answer: Measuring) {
     let deviation = answer.deviation();
     let mut line = [0u8; line::ROOM];
     let at = line::put(&mut line, 0, b"measure");
@@ -85,33 +76,32 @@ fn answer_measuring(measured: FrameMeasured) {
 }
 
 // `C`: offset control, rate control.
-pub fn close_cycle(held: Held) -> Turn {
-    let mut item = [0u8; 2];
-    if !script::take(&mut item) {
-        return Turn::script_error(held);
-    }
+fn close_cycle(item: Item, clock: Clock) -> Clock {
     let offset_control = script::signed_byte(item[0]);
     let rate_control = script::signed_byte(item[1]);
-    let closed = clock::close_cycle(held.clock, offset_control, rate_control);
-    answer_closing(closed);
-    Turn::played(held.with_clock(closed.clock))
+    let closed = closing::close_cycle(clock, offset_control, rate_control);
+    let answer = closed.answer;
+    answer_closing(answer);
+    closed.clock
 }
 
 // `close N OFFSET RATE OM RM OL RL IDS`
-fn answer_closing(closed: CycleClosed) {
-    let answer = closed.answer;
+fn answer_closing(answer: Closing) {
     let report = answer.report();
     let offset = report.offset;
     let rate = report.rate;
+    let numbers = [
+        report.offset_missing as u64,
+        report.rate_missing as u64,
+        report.offset_limited as u64,
+        report.rate_limited as u64,
+        report.ids as u64,
+    ];
     let mut line = [0u8; line::ROOM];
     let at = line::put(&mut line, 0, b"close");
     let at = line::decimal(&mut line, at, answer.number() as u64);
     let at = line::signed(&mut line, at, offset.0);
     let at = line::signed(&mut line, at, rate.0);
-    let at = line::decimal(&mut line, at, report.offset_missing as u64);
-    let at = line::decimal(&mut line, at, report.rate_missing as u64);
-    let at = line::decimal(&mut line, at, report.offset_limited as u64);
-    let at = line::decimal(&mut line, at, report.rate_limited as u64);
-    let at = line::decimal(&mut line, at, report.ids as u64);
+    let at = line::decimals(&mut line, at, &numbers);
     line::end(&mut line, at);
 }

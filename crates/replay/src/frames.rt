@@ -1,43 +1,54 @@
-// The commands on frames: frame checksum, read and write. Each takes what stands behind its letter, writes its line and
+// The commands on frames: frame checksum, read, write and the bench line. Each takes what stands behind its item, writes its line and
 // answers true, or answers false where it meets a script error.
+use crate::item;
+use crate::item::Item;
 use crate::line;
 use crate::script;
-use frame::Cycle;
-use frame::Fields;
 use frame::Reading;
-use frame::Slot;
+use header::Cycle;
+use header::Fields;
+use header::Slot;
+use libc::STDOUT_FILENO;
 
-// `F`: channel, size, bytes.
-pub fn frame_checksum() -> bool {
+// Plays the command on frames that has this letter.
+pub fn play(letter: u8, item: Item) -> bool {
+    match letter {
+        b'F' => frame_checksum(item[0]),
+        b'R' => read(item[0]),
+        b'W' => write(item),
+        b'P' => bench_line(),
+        _ => false,
+    }
+}
+
+// `F`: channel; size, bytes.
+fn frame_checksum(channel: u8) -> bool {
     let mut space = [0u8; script::MOST];
-    let item = script::take_on_channel(&mut space);
-    if item.is_script_error {
+    let size = script::take_bytes(&mut space);
+    if size.is_script_error {
         return false;
     }
-    let end = item.bytes;
-    answer_checksum(item.channel, &space[0..end]);
+    let end = size.bytes;
+    answer_checksum(channel, &space[0..end]);
     true
 }
 
 // `checksum N VALUE`
 fn answer_checksum(channel: u8, bytes: &[u8]) {
     let checksum = checksum::frame_checksum(channel, bytes);
-    let mut line = [0u8; line::ROOM];
-    let at = line::put(&mut line, 0, b"checksum");
-    let at = line::decimal(&mut line, at, checksum.number() as u64);
-    let at = line::decimal(&mut line, at, checksum.value() as u64);
-    line::end(&mut line, at);
+    let numbers = [checksum.number() as u64, checksum.value() as u64];
+    line::write(b"checksum", &numbers);
 }
 
-// `R`: channel, size, bytes.
-pub fn read() -> bool {
+// `R`: channel; size, bytes.
+fn read(channel: u8) -> bool {
     let mut space = [0u8; script::MOST];
-    let item = script::take_on_channel(&mut space);
-    if item.is_script_error {
+    let size = script::take_bytes(&mut space);
+    if size.is_script_error {
         return false;
     }
-    let end = item.bytes;
-    answer_read(item.channel, &space[0..end]);
+    let end = size.bytes;
+    answer_read(channel, &space[0..end]);
     true
 }
 
@@ -57,24 +68,22 @@ fn put_header(line: &mut [u8; line::ROOM], at: usize, reading: Reading) -> usize
     let Reading::Accepted(header) = reading else {
         return at;
     };
-    let at = line::decimal(line, at, header.reserved as u64);
-    let at = line::decimal(line, at, header.preamble as u64);
-    let at = line::decimal(line, at, header.null_frame_bit as u64);
-    let at = line::decimal(line, at, header.sync as u64);
-    let at = line::decimal(line, at, header.startup as u64);
-    let at = line::decimal(line, at, header.id.0 as u64);
-    let at = line::decimal(line, at, header.words as u64);
-    let at = line::decimal(line, at, header.checksum as u64);
-    line::decimal(line, at, header.cycle.0 as u64)
+    let numbers = [
+        header.reserved as u64,
+        header.preamble as u64,
+        header.null_frame_bit as u64,
+        header.sync as u64,
+        header.startup as u64,
+        header.id.0 as u64,
+        header.words as u64,
+        header.checksum as u64,
+        header.cycle.0 as u64,
+    ];
+    line::decimals(line, at, &numbers)
 }
 
-// `W`: channel, flags, ID, cycle, size, payload, room.
-pub fn write() -> bool {
-    // Up to the cycle; the ID has two bytes.
-    let mut item = [0u8; 5];
-    if !script::take(&mut item) {
-        return false;
-    }
+// `W`: channel, flags, ID, cycle; size, payload, room.
+fn write(item: Item) -> bool {
     let mut space = [0u8; script::MOST];
     let size = script::take_bytes(&mut space);
     if size.is_script_error {
@@ -84,8 +93,7 @@ pub fn write() -> bool {
     if room.is_script_error {
         return false;
     }
-    let id = script::number(item[2], item[3]);
-    let fields = fields_of(item[1], id, item[4]);
+    let fields = fields_of(item[1], item::number(item, 2), item[4]);
     let end = size.bytes;
     let lent = room.bytes;
     let mut output = [0xA5u8; script::MOST];
@@ -109,10 +117,24 @@ pub fn fields_of(flags: u8, id: u16, cycle: u8) -> Fields {
 // `write N LENGTH OUTPUT`
 fn answer_write(channel: u8, fields: Fields, payload: &[u8], output: &mut [u8]) {
     let writing = frame::write(channel, fields, payload, output);
+    let numbers = [writing.number() as u64, writing.length() as u64];
     let mut line = [0u8; line::ROOM];
     let at = line::put(&mut line, 0, b"write");
-    let at = line::decimal(&mut line, at, writing.number() as u64);
-    let at = line::decimal(&mut line, at, writing.length() as u64);
+    let at = line::decimals(&mut line, at, &numbers);
     let at = line::hex(&mut line, at, output);
     line::end(&mut line, at);
+}
+
+// `P`: size, bytes. The line is the one that the bench program writes for them.
+fn bench_line() -> bool {
+    let mut space = [0u8; script::MOST];
+    let size = script::take_bytes(&mut space);
+    if size.is_script_error {
+        return false;
+    }
+    let input = size.bytes;
+    let mut line = [0u8; bench_line::LONGEST];
+    let end = bench_line::line(&space[0..input], &mut line);
+    io::write_all(STDOUT_FILENO, &line[0..end]);
+    true
 }

@@ -6,6 +6,21 @@ use libc::STDOUT_FILENO;
 // Room for every line. The longest is that of a write with 600 bytes of output: 1,213 characters.
 pub const ROOM: usize = 1300;
 
+// Writes a line of a word and numbers.
+pub fn write(word: &[u8], numbers: &[u64]) {
+    let mut line = [0u8; ROOM];
+    let at = put(&mut line, 0, word);
+    let at = decimals(&mut line, at, numbers);
+    end(&mut line, at);
+}
+
+// Writes a line of words alone.
+pub fn write_words(words: &[u8]) {
+    let mut line = [0u8; ROOM];
+    let at = put(&mut line, 0, words);
+    end(&mut line, at);
+}
+
 // Puts the bytes as they are.
 pub fn put(line: &mut [u8; ROOM], at: usize, bytes: &[u8]) -> usize {
     let mut at = at;
@@ -21,6 +36,17 @@ pub fn put(line: &mut [u8; ROOM], at: usize, bytes: &[u8]) -> usize {
 pub fn decimal(line: &mut [u8; ROOM], at: usize, number: u64) -> usize {
     let at = put_byte(line, at, b' ');
     put_digits(line, at, number)
+}
+
+// Puts a space and the number, for each of the numbers.
+pub fn decimals(line: &mut [u8; ROOM], at: usize, numbers: &[u64]) -> usize {
+    let mut at = at;
+    let mut i = 0;
+    while i < numbers.len() {
+        at = decimal(line, at, numbers[i]);
+        i += 1;
+    }
+    at
 }
 
 // Puts a space and the number, with `-` before a negative one. (It is made wide first, since the lowest has no counterpart of its

@@ -1,68 +1,50 @@
 // A sync list in a script, and in a line.
+ghost use Prim.Native.Nat.{_≤_};
+use crate::item;
+use crate::item::Item;
 use crate::line;
 use crate::script;
 use correction::SignedMicrotick;
-use frame::Slot;
+use header::Slot;
 use sync_list::Measured;
 use sync_list::Measurement;
 use sync_list::ROWS;
 use sync_list::Row;
 use sync_list::SyncList;
 
-// A list, empty where a script error stands in its place.
-pub struct TakenList {
-    pub is_script_error: bool,
-    pub list: SyncList,
-}
+// How many bytes a row has, and a list: a count and the rows.
+const ROW_SIZE: usize = 11;
 
-// Takes a count and the rows.
-pub fn take() -> TakenList {
-    let mut count = [0u8; 1];
-    if !script::take(&mut count) {
-        return script_error();
-    }
-    take_rows(count[0])
-}
+pub const SIZE: usize = 1 + ROWS * ROW_SIZE;
 
-// Takes a row for each place. One behind the count is put as it stands: that it is not listed is for the list to know.
-fn take_rows(count: u8) -> TakenList {
+// The list at this place of an item: a count and the rows. A row behind the count is taken as it stands: that it is not listed is
+// for the list to know.
+pub(crate) fn of(item: Item, at: usize) -> SyncList
+    requires { ⌜ at ≤ 219 ⌝ }
+{
     let mut rows = [Row::blank(Slot(0)); ROWS];
     let mut i: usize = 0;
     while i < ROWS {
-        let mut item = [0u8; 11];
-        if !script::take(&mut item) {
-            return script_error();
-        }
-        let row = row_of(item);
+        let row = row_of(item, at + 1 + i * ROW_SIZE);
         rows[i] = row;
         i += 1;
     }
-    TakenList {
-        is_script_error: false,
-        list: SyncList {
-            rows,
-            count: count as usize,
-        },
-    }
-}
-
-fn script_error() -> TakenList {
-    TakenList {
-        is_script_error: true,
-        list: SyncList::empty(),
+    SyncList {
+        rows,
+        count: item[at] as usize,
     }
 }
 
 // ID, seen, deviation on A, deviation on B. A bit of seen says whether the deviation of its channel is looked at, A's the lowest;
 // the bits above the two are not looked at.
-fn row_of(item: [u8; 11]) -> Row {
-    let seen = item[2];
-    let on_a = script::four_bytes(item[3], item[4], item[5], item[6]);
-    let on_b = script::four_bytes(item[7], item[8], item[9], item[10]);
+fn row_of(item: Item, at: usize) -> Row
+    requires { ⌜ at ≤ 374 ⌝ }
+{
+    let seen = item[at + 2];
     Row {
-        id: Slot(script::number(item[0], item[1])),
-        on_a: measured_of(seen % 2 == 1, on_a),
-        on_b: measured_of(seen / 2 % 2 == 1, on_b),
+        id: Slot(item::number(item, at)),
+        on_a: measured_of(seen % 2 == 1, item::long(item, at + 3)),
+        on_b: measured_of(seen / 2 % 2 == 1, item::long(item, at + 7)),
     }
 }
 

@@ -4,60 +4,56 @@ mod clock_states;
 mod clocks;
 mod frames;
 mod held;
+mod item;
 mod line;
 mod lists;
 mod script;
 mod sheet;
 mod slots;
 mod statuses;
-mod turn;
 
 use held::Held;
+use item::Item;
 use script::Start;
-use turn::Turn;
 
-// Plays the command with this letter, with what is held.
-fn play(letter: u8, held: Held) -> Turn {
-    match letter {
-        b'F' => on_frames(frames::frame_checksum(), held),
-        b'R' => on_frames(frames::read(), held),
-        b'W' => on_frames(frames::write(), held),
-        b'L' => clocks::load(held),
-        b'S' => slots::open_slot(held),
-        b'A' => slots::arrived(held),
-        b'B' => slots::boundary(held),
-        b'X' => slots::sent(held),
-        b'O' => clocks::open_cycle(held),
-        b'M' => clocks::measure(held),
-        b'C' => clocks::close_cycle(held),
-        b'K' => clock_states::put(held),
-        b'T' => statuses::put(held),
-        b'D' => show(held),
-        _ => Turn::script_error(held),
+// Plays the command with this letter: what is held from then on.
+fn play(letter: u8, held: Held) -> Held {
+    let taken = item::take(letter);
+    if taken.is_script_error {
+        return held.after(false);
     }
+    let item = taken.item;
+    play_item(letter, item, held)
 }
 
-// A command on frames leaves what is held as it is.
-fn on_frames(is_played: bool, held: Held) -> Turn {
-    Turn {
-        is_script_error: !is_played,
-        held,
+// Plays the command whose item has been taken. An unknown letter is a script error.
+fn play_item(letter: u8, item: Item, held: Held) -> Held {
+    match letter {
+        b'F' | b'R' | b'W' | b'P' => held.after(frames::play(letter, item)),
+        b'L' | b'O' | b'M' | b'C' | b'K' => held.with_clock(clocks::play(
+            letter,
+            item,
+            held.clock,
+            held.status,
+        )),
+        b'S' | b'B' | b'X' | b'T' => held.with_status(slots::play(letter, item, held.status)),
+        b'A' => slots::arrived(held),
+        b'D' => show(held),
+        _ => held.after(false),
     }
 }
 
 // `D`. The clock's line stands before the status's.
-fn show(held: Held) -> Turn {
+fn show(held: Held) -> Held {
     clock_states::show(held.clock);
     statuses::show(held.status);
-    Turn::played(held)
+    held.after(true)
 }
 
 // `script error at COMMAND`
 fn script_error(command: u64) {
-    let mut line = [0u8; line::ROOM];
-    let at = line::put(&mut line, 0, b"script error at");
-    let at = line::decimal(&mut line, at, command);
-    line::end(&mut line, at);
+    let numbers = [command];
+    line::write(b"script error at", &numbers);
 }
 
 // A proved loop has to end, and nothing says that a script does. So the count of commands has an end, which no run reaches.
@@ -68,13 +64,11 @@ fn main() {
         let Start::Letter(letter) = script::take_letter() else {
             return;
         };
-        let turn = play(letter, held);
-        if turn.is_script_error {
+        held = play(letter, held);
+        if held.is_script_error {
             script_error(command);
             return;
         }
-        let next = turn.held;
-        held = next;
         command += 1;
     }
 }

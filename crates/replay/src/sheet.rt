@@ -1,46 +1,30 @@
 // A settings sheet in a script, and in a line.
+use crate::item;
+use crate::item::Item;
 use crate::line;
-use crate::script;
 use settings::Settings;
 
-// A sheet, all zeros where a script error stands in its place.
-pub struct Sheet {
-    pub is_script_error: bool,
-    pub settings: Settings,
+// The place of the switch, behind the eleven numbers of four bytes.
+const SWITCH: usize = 44;
+
+// How many bytes a sheet has.
+pub const SIZE: usize = SWITCH + 1;
+
+pub fn is_right(item: Item) -> bool {
+    item::is_switch(item[SWITCH])
 }
 
-// Takes eleven numbers and a switch.
-pub fn take() -> Sheet {
+// The sheet at the front of an item.
+pub fn of(item: Item) -> Settings {
     let mut fields = [0u32; settings::FIELDS];
     let mut i = 0;
     while i < settings::FIELDS {
-        let field = script::take_long();
-        if field.is_script_error {
-            return script_error();
-        }
-        fields[i] = field.value;
+        fields[i] = item::long(item, i * 4);
         i += 1;
     }
-    let mut switch = [0u8; 1];
-    if !script::take(&mut switch) {
-        return script_error();
-    }
-    if script::is_no_switch(switch[0]) {
-        return script_error();
-    }
-    Sheet {
-        is_script_error: false,
-        settings: Settings {
-            fields,
-            sends_sync: switch[0] == 1,
-        },
-    }
-}
-
-fn script_error() -> Sheet {
-    Sheet {
-        is_script_error: true,
-        settings: Settings::none(),
+    Settings {
+        fields,
+        sends_sync: item[SWITCH] == 1,
     }
 }
 

@@ -1,70 +1,69 @@
-// The commands on a slot: opening it, and the three events. Each takes what stands behind its letter,
+// The commands on a slot: opening it, and the three events. Each is handed the item behind its letter, but for `A`,
 // writes its line and answers with what is held from then on.
 use crate::held::Held;
+use crate::item;
+use crate::item::Item;
 use crate::line;
 use crate::script;
 use crate::sheet;
-use crate::turn::Turn;
-use frame::Cycle;
-use frame::Slot;
-use slot::Judged;
-use slot::Opened;
+use crate::statuses;
+use header::Cycle;
+use header::Slot;
+use slot::Opening;
+use slot::Status;
+use slot_events::Judged;
+
+// The places of an item of `S`, behind the sheet.
+const CHANNEL: usize = sheet::SIZE;
+
+const SLOT: usize = CHANNEL + 1;
+
+const CYCLE: usize = SLOT + 2;
+
+// How many bytes it has.
+pub const SIZE: usize = CYCLE + 1;
+
+// Plays the command on a slot that has this letter and an item; any other leaves the slot status as it is.
+pub fn play(letter: u8, item: Item, status: Status) -> Status {
+    match letter {
+        b'S' => open_slot(item),
+        b'B' => answer_event(slot_events::boundary(status)),
+        b'X' => answer_event(slot_events::sent(status)),
+        b'T' => statuses::put(item),
+        _ => status,
+    }
+}
 
 // `S`: settings, channel, slot, cycle.
-pub fn open_slot(held: Held) -> Turn {
-    let taken = sheet::take();
-    if taken.is_script_error {
-        return Turn::script_error(held);
-    }
-    // The slot has two bytes.
-    let mut item = [0u8; 4];
-    if !script::take(&mut item) {
-        return Turn::script_error(held);
-    }
-    let slot = Slot(script::number(item[1], item[2]));
-    let cycle = Cycle(item[3]);
-    let opened = slot::open_slot(taken.settings, item[0], slot, cycle);
-    answer_opening(opened);
-    Turn::played(held.with_status(opened.status))
+fn open_slot(item: Item) -> Status {
+    let slot = Slot(item::number(item, SLOT));
+    let opened = slot::open_slot(sheet::of(item), item[CHANNEL], slot, Cycle(item[CYCLE]));
+    let answer = opened.answer;
+    answer_opening(answer);
+    opened.status
 }
 
 // `slot N FIELD`
-fn answer_opening(opened: Opened) {
-    let answer = opened.answer;
-    let mut line = [0u8; line::ROOM];
-    let at = line::put(&mut line, 0, b"slot");
-    let at = line::decimal(&mut line, at, answer.number() as u64);
-    let at = line::decimal(&mut line, at, answer.field() as u64);
-    line::end(&mut line, at);
+fn answer_opening(answer: Opening) {
+    let numbers = [answer.number() as u64, answer.field() as u64];
+    line::write(b"slot", &numbers);
 }
 
 // `A`: size, bytes.
-pub fn arrived(held: Held) -> Turn {
+pub fn arrived(held: Held) -> Held {
     let mut space = [0u8; script::MOST];
     let size = script::take_bytes(&mut space);
     if size.is_script_error {
-        return Turn::script_error(held);
+        return held.after(false);
     }
     let end = size.bytes;
-    answer_event(held, slot::arrived(held.status, &space[0..end]))
-}
-
-// `B`
-pub fn boundary(held: Held) -> Turn {
-    answer_event(held, slot::boundary(held.status))
-}
-
-// `X`
-pub fn sent(held: Held) -> Turn {
-    answer_event(held, slot::sent(held.status))
+    held.with_status(answer_event(slot_events::arrived(held.status, &space[0..end])))
 }
 
 // `event N`
-fn answer_event(held: Held, judged: Judged) -> Turn {
+fn answer_event(judged: Judged) -> Status {
     let answer = judged.answer;
-    let mut line = [0u8; line::ROOM];
-    let at = line::put(&mut line, 0, b"event");
-    let at = line::decimal(&mut line, at, answer.number() as u64);
-    line::end(&mut line, at);
-    Turn::played(held.with_status(judged.status))
+    let numbers = [answer.number() as u64];
+    line::write(b"event", &numbers);
+    judged.status
 }

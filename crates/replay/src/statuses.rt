@@ -1,64 +1,77 @@
 // A slot status in a script, and in a line.
 use crate::frames;
-use crate::held::Held;
+use crate::item;
+use crate::item::Item;
 use crate::line;
-use crate::script;
 use crate::sheet;
-use crate::turn::Turn;
 use checksum::Channel;
 use checksum::Named;
-use frame::Cycle;
-use frame::Header;
-use frame::Slot;
+use header::Cycle;
+use header::Header;
+use header::Slot;
 use slot::Kept;
 use slot::Reason;
 use slot::Status;
 
+// The places of an item, behind the sheet; those of the kept frame's fields behind the kept switch.
+const CHANNEL: usize = sheet::SIZE;
+
+const SLOT: usize = CHANNEL + 1;
+
+const CYCLE: usize = SLOT + 2;
+
+const MARKS: usize = CYCLE + 1;
+
+const REASON: usize = MARKS + 1;
+
+const KEPT: usize = REASON + 1;
+
+const FLAGS: usize = KEPT + 1;
+
+const ID: usize = FLAGS + 1;
+
+const WORDS: usize = ID + 2;
+
+const CHECKSUM: usize = WORDS + 1;
+
+const KEPT_CYCLE: usize = CHECKSUM + 2;
+
+// How many bytes a status has.
+pub const SIZE: usize = KEPT_CYCLE + 1;
+
+pub fn is_right(item: Item) -> bool {
+    sheet::is_right(item)
+        && item::is_switch(item[CHANNEL])
+        && item[REASON] < 6
+        && item::is_switch(item[KEPT])
+}
+
 // `T`: settings, channel switch, slot, cycle, marks, reason, kept switch, and the kept frame's flags, ID, words, checksum and cycle.
-pub fn put(held: Held) -> Turn {
-    let taken = sheet::take();
-    if taken.is_script_error {
-        return Turn::script_error(held);
-    }
-    // Slot, ID and checksum have two bytes.
-    let mut item = [0u8; 14];
-    if !script::take(&mut item) {
-        return Turn::script_error(held);
-    }
-    // The switch of a channel is its number.
-    let Named::Is(channel) = Channel::named(item[0]) else {
-        return Turn::script_error(held);
-    };
-    if 5 < item[5] {
-        return Turn::script_error(held);
-    }
-    if script::is_no_switch(item[6]) {
-        return Turn::script_error(held);
-    }
-    let marks = item[4];
-    let settings = taken.settings;
-    answer_put();
-    Turn::played(held.with_status(Status {
-        settings,
-        channel,
-        slot: Slot(script::number(item[1], item[2])),
-        cycle: Cycle(item[3]),
+pub fn put(item: Item) -> Status {
+    line::write_words(b"status put");
+    let marks = item[MARKS];
+    Status {
+        settings: sheet::of(item),
+        channel: channel_of(item[CHANNEL]),
+        slot: Slot(item::number(item, SLOT)),
+        cycle: Cycle(item[CYCLE]),
         syntax_error: marks % 2 == 1,
         content_error: marks / 2 % 2 == 1,
         boundary_violation: marks / 4 % 2 == 1,
         conflict: marks / 8 % 2 == 1,
         valid: marks / 16 % 2 == 1,
         own_sending: marks / 32 % 2 == 1,
-        reason: reason_of(item[5]),
+        reason: reason_of(item[REASON]),
         kept: kept_of(item),
-    }))
+    }
 }
 
-// `status put`
-fn answer_put() {
-    let mut line = [0u8; line::ROOM];
-    let at = line::put(&mut line, 0, b"status put");
-    line::end(&mut line, at);
+// The switch of a channel is its number, and `is_right` leaves no other number.
+fn channel_of(switch: u8) -> Channel {
+    let Named::Is(channel) = Channel::named(switch) else {
+        return Channel::A;
+    };
+    channel
 }
 
 fn reason_of(number: u8) -> Reason {
@@ -73,11 +86,11 @@ fn reason_of(number: u8) -> Reason {
 }
 
 // The kept frame of a status that is put.
-fn kept_of(item: [u8; 14]) -> Kept {
-    if item[6] == 0 {
+fn kept_of(item: Item) -> Kept {
+    if item[KEPT] == 0 {
         return Kept::Nothing;
     }
-    let fields = frames::fields_of(item[7], script::number(item[8], item[9]), item[13]);
+    let fields = frames::fields_of(item[FLAGS], item::number(item, ID), item[KEPT_CYCLE]);
     let id = fields.id;
     let cycle = fields.cycle;
     Kept::Frame(Header {
@@ -87,8 +100,8 @@ fn kept_of(item: [u8; 14]) -> Kept {
         sync: fields.sync,
         startup: fields.startup,
         id,
-        words: item[10],
-        checksum: script::number(item[11], item[12]),
+        words: item[WORDS],
+        checksum: item::number(item, CHECKSUM),
         cycle,
     })
 }
@@ -98,14 +111,17 @@ pub fn show(status: Status) {
     let channel = status.channel;
     let reason = status.reason;
     let kept = status.kept;
+    let numbers = [
+        channel.number() as u64,
+        status.slot.0 as u64,
+        status.cycle.0 as u64,
+        marks_of(status),
+        number_of(reason),
+    ];
     let mut line = [0u8; line::ROOM];
     let at = line::put(&mut line, 0, b"status");
     let at = sheet::put(&mut line, at, status.settings);
-    let at = line::decimal(&mut line, at, channel.number() as u64);
-    let at = line::decimal(&mut line, at, status.slot.0 as u64);
-    let at = line::decimal(&mut line, at, status.cycle.0 as u64);
-    let at = line::decimal(&mut line, at, marks_of(status));
-    let at = line::decimal(&mut line, at, number_of(reason));
+    let at = line::decimals(&mut line, at, &numbers);
     let at = put_kept(&mut line, at, kept);
     line::end(&mut line, at);
 }
@@ -142,14 +158,14 @@ fn flags_of(header: Header) -> u64 {
 
 // Puts the kept switch and the kept frame's fields, zeros where there is none.
 fn put_kept(line: &mut [u8; line::ROOM], at: usize, kept: Kept) -> usize {
-    let at = line::decimal(line, at, kept.is_frame() as u64);
-    put_frame(line, at, kept.header())
-}
-
-fn put_frame(line: &mut [u8; line::ROOM], at: usize, header: Header) -> usize {
-    let at = line::decimal(line, at, flags_of(header));
-    let at = line::decimal(line, at, header.id.0 as u64);
-    let at = line::decimal(line, at, header.words as u64);
-    let at = line::decimal(line, at, header.checksum as u64);
-    line::decimal(line, at, header.cycle.0 as u64)
+    let header = kept.header();
+    let numbers = [
+        kept.is_frame() as u64,
+        flags_of(header),
+        header.id.0 as u64,
+        header.words as u64,
+        header.checksum as u64,
+        header.cycle.0 as u64,
+    ];
+    line::decimals(line, at, &numbers)
 }

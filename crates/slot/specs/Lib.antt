@@ -1,4 +1,3 @@
 pub mod Judging
 pub mod Opening
 pub mod Sound
-pub mod Events

@@ -4,9 +4,9 @@ use mathlib.Core.Path.{_≡_}
 use mathlib.Core.List.{List, [], _∷_}
 use Rattle.refusal.specs.Refusal.{Line, _when_, first, ifAccepted}
 use Rattle.checksum.specs.Channel.{notAChannel}
-use Rattle.frame.specs.declared.header.Slot.{Slot}
-use Rattle.frame.specs.declared.header.Cycle.{Cycle}
-use Rattle.frame.specs.Refusals.{notAnId, cycleTooHigh}
+use Rattle.header.specs.declared.Slot.{Slot}
+use Rattle.header.specs.declared.Cycle.{Cycle}
+use Rattle.header.specs.Refusals.{notAnId, cycleTooHigh}
 use Rattle.settings.specs.declared.Settings.{Settings}
 use Rattle.settings.specs.Sheet.{firstOutOfRange, outOfRange}
 use Rattle.slot.specs.declared.opening.Opening.{Opening}

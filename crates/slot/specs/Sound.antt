@@ -3,9 +3,9 @@ use mathlib.Core.Bool.{Bool, true, false, not, _&&_}
 use lib.Dec.{eqb, leb}
 use Rattle.refusal.specs.Refusal.{first}
 use Rattle.checksum.specs.Channel.{numberOf}
-use Rattle.frame.specs.declared.header.Header.{Header}
-use Rattle.frame.specs.Layout.{mostWords, headerChecksumOf}
-use Rattle.frame.specs.Refusals.{notAnId, cycleTooHigh, startupWithoutSync}
+use Rattle.header.specs.declared.Header.{Header}
+use Rattle.header.specs.Layout.{mostWords, headerChecksumOf}
+use Rattle.header.specs.Refusals.{notAnId, cycleTooHigh, startupWithoutSync}
 use Rattle.slot.specs.declared.status.Kept.{Kept}
 use Rattle.slot.specs.declared.status.Kept.the-variants.{Nothing, Frame}
 use Rattle.slot.specs.declared.status.Status.{Status}

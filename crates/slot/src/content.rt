@@ -1,10 +1,9 @@
 // Tests (a) to (e), by which a frame is right or wrong for its slot.
 ghost use mathlib.Core.Path.{_≡_};
-ghost use Rattle.slot.specs.Judging.{placeOf, isStatic, missesWords, missesClear, missesNotNull, firstMiss, keptBy};
-use crate::status::Kept;
+ghost use Rattle.slot.specs.Judging.{placeOf, isStatic, missesWords, missesClear, missesNotNull, firstMiss};
 use crate::status::Reason;
 use crate::status::Status;
-use frame::Header;
+use header::Header;
 
 // Whether the slot is static, by the settings that it was opened with. Any other is dynamic.
 pub fn is_static(status: Status) -> bool
@@ -67,14 +66,4 @@ fn misses_not_null(status: Status, header: Header) -> bool
     }
     let is_not_null = header.null_frame_bit;
     !is_not_null
-}
-
-// The frame to keep: one that missed no test.
-pub fn kept_by(reason: Reason, header: Header) -> Kept
-    ensures { λ r. ⌜ r ≡ keptBy reason header ⌝ }
-{
-    if reason.is_reason() {
-        return Kept::Nothing;
-    }
-    Kept::Frame(header)
 }

@@ -1,6 +1,6 @@
-// Flags joined. (The prover follows an early return more easily than `&&` and `||`.)
+// Flags joined. (The prover follows an early return more easily than `&&`.)
 ghost use mathlib.Core.Path.{_≡_};
-ghost use mathlib.Core.Bool.{_&&_, _||_};
+ghost use mathlib.Core.Bool.{_&&_};
 ghost use Rattle.slot.specs.Sound.{exactlyWith};
 
 pub fn both(a: bool, b: bool) -> bool
@@ -10,15 +10,6 @@ pub fn both(a: bool, b: bool) -> bool
         return b;
     }
     false
-}
-
-pub fn either(a: bool, b: bool) -> bool
-    ensures { λ r. ⌜ r ≡ a || b ⌝ }
-{
-    if a {
-        return true;
-    }
-    b
 }
 
 // Both or neither.

@@ -1,21 +1,17 @@
-// One slot on one channel, judged (document 01, "Judging a slot").
+// One slot on one channel (document 01, "Judging a slot"): what is known of it, when that is sound, and the tests by which a frame is
+// judged in it.
 //
-// Entries: `open_slot` on settings, a channel number, a slot and a cycle; `arrived` on a status and bytes, `boundary` and `sent` on
-// a status. Each takes whatever comes and gives an answer and a status. For the crates above: `is_sound`, by which a status that
-// a host hands in is refused, `Status::none`, which is all zeros, and `is_static`.
+// Entry: `open_slot` on settings, a channel number, a slot and a cycle. It takes whatever comes and gives an answer and a status. For
+// the crates above: `is_sound`, by which a status that a host hands in is refused, `first_miss`, the first test that a frame
+// misses, `Status::none`, which is all zeros, and `is_static`.
 mod content;
-mod events;
 mod flags;
 mod opening;
 mod sound;
 mod status;
 
+pub use content::first_miss;
 pub use content::is_static;
-pub use events::Judged;
-pub use events::Recording;
-pub use events::arrived;
-pub use events::boundary;
-pub use events::sent;
 pub use opening::Opened;
 pub use opening::Opening;
 pub use opening::open_slot;

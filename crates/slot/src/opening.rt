@@ -5,8 +5,8 @@ ghost use Rattle.slot.specs.Opening.{told, OpenSays};
 use crate::status::Status;
 use checksum::Channel;
 use checksum::Named;
-use frame::Cycle;
-use frame::Slot;
+use header::Cycle;
+use header::Slot;
 use settings::Settings;
 
 // What opening a slot answers: that it is open, or why it is not.

@@ -6,7 +6,7 @@ use crate::content;
 use crate::flags;
 use crate::status::Kept;
 use crate::status::Status;
-use frame::Header;
+use header::Header;
 
 // Soundness as 01 writes it, clause by clause. It is no stricter: refusal 23 is given exactly where a status is not sound.
 pub fn is_sound(status: Status) -> bool
@@ -70,7 +70,7 @@ fn could_be_read(header: Header) -> bool
     if header.cycle.is_too_high() {
         return false;
     }
-    if frame::startup_without_sync(header.startup, header.sync) {
+    if header::startup_without_sync(header.startup, header.sync) {
         return false;
     }
     let checksum = header.checksum;

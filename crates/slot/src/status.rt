@@ -2,9 +2,9 @@
 ghost use mathlib.Core.Path.{_≡_};
 ghost use Rattle.slot.specs.Judging.{fresh as Judging·fresh, noStatus, isReason, isFrame, headerKept, firstReason, firstKept, hasArrival};
 use checksum::Channel;
-use frame::Cycle;
-use frame::Header;
-use frame::Slot;
+use header::Cycle;
+use header::Header;
+use header::Slot;
 use settings::Settings;
 
 // The first test that a frame missed, of 01's (a) to (e), or none.

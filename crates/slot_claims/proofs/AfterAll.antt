@@ -4,10 +4,11 @@ use mathlib.Core.Bool.{Bool, true, false, _||_, cond, or-false}
 use mathlib.Core.List.{List, [], _∷_}
 use mathlib.Core.Logic.{_↔_}
 use Rattle.slot.specs.declared.status.Status.{Status}
-use Rattle.slot.specs.Judging.{Place, Event, Brought, placeOf, fresh, brings, after}
+use Rattle.slot.specs.Judging.{Place, placeOf, fresh}
 use Rattle.slot.specs.Sound.{sound}
+use Rattle.slot_events.specs.Effect.{Event, Brought, brings, after}
 use Rattle.slot_claims.specs.Histories.{Some, First}
-use Rattle.slot_claims.proofs.Truth.{or-between, first-of-three}
+use Rattle.slot_claims.proofs.FirstLaws.{or-between, first-of-three}
 use Rattle.slot_claims.proofs.SoundCalls.{after-sound}
 use Rattle.slot_claims.proofs.SequenceLaws.{some-same, first-same, any, any-some, some-any, firstIn, found-first, first-found}
 

@@ -8,12 +8,13 @@ use Rattle.refusal.proofs.FirstLaws.{first-in-order, if-refused}
 use Rattle.slot.specs.declared.status.Status.{Status}
 use Rattle.slot.specs.declared.opening.Opening.{Opening}
 use Rattle.slot.specs.declared.opening.Opening.the-variants.{Opened, SettingOutOfRange, NotAChannel, NotASlot, CycleTooHigh}
-use Rattle.slot.specs.declared.events.Recording.{Recording}
-use Rattle.slot.specs.declared.events.Recording.the-variants.{Recorded, NotSound}
-use Rattle.slot.specs.Judging.{placeBy, fresh, noStatus, after}
+use Rattle.slot.specs.Judging.{placeBy, fresh, noStatus}
 use Rattle.slot.specs.Opening.{openingRefusals, Told, told}
-use Rattle.slot.specs.Events as event
-use Rattle.slot.specs.Events.{eventRefusals}
+use Rattle.slot_events.specs.declared.Recording.{Recording}
+use Rattle.slot_events.specs.declared.Recording.the-variants.{Recorded, NotSound}
+use Rattle.slot_events.specs.Effect.{after}
+use Rattle.slot_events.specs.Events as event
+use Rattle.slot_events.specs.Events.{eventRefusals}
 use Rattle.slot_claims.specs.Answers.{OpenOne, EventOne, OpenInOrder, EventInOrder, OpenRefused, EventRefused}
 
 -- ---- one result

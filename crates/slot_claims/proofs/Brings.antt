@@ -6,7 +6,7 @@ use mathlib.Core.List.{List}
 use mathlib.Core.Logic.{_⊎_, inl, inr, _↔_}
 use borrow.Author.Tests.{eqb-true, not-false}
 use Rattle.refusal.specs.Refusal.{first}
-use Rattle.frame.specs.declared.header.Header.{Header}
+use Rattle.header.specs.declared.Header.{Header}
 use Rattle.frame.specs.declared.reader.Reading.the-variants.{Accepted}
 use Rattle.frame.specs.Read as read
 use Rattle.frame.specs.Read.{headerRead, refusalsOn, ReadOnSays}
@@ -14,8 +14,9 @@ use Rattle.slot.specs.declared.status.Reason.{Reason}
 use Rattle.slot.specs.declared.status.Reason.the-variants as reason
 use Rattle.slot.specs.declared.status.Kept.{Kept}
 use Rattle.slot.specs.declared.status.Kept.the-variants as kept
-use Rattle.slot.specs.Judging.{Place, Event, Brought, arrival, boundaryActivity, ownSending, firstMiss, keptBy, isReason, isFrame, isRefused, ofArrival, brings}
-use Rattle.slot.proofs.EventLaws.{brings-refused, brings-frame}
+use Rattle.slot.specs.Judging.{Place, firstMiss, isReason, isFrame}
+use Rattle.slot_events.specs.Effect.{Event, Brought, arrival, boundaryActivity, ownSending, keptBy, isRefused, ofArrival, brings}
+use Rattle.slot_events.proofs.EventLaws.{brings-refused, brings-frame}
 use Rattle.slot_claims.specs.Histories.{Arrives, ArrivesRefused, ArrivesMissing, ArrivesPassing}
 use Rattle.slot_claims.proofs.ReasonLaws.{reason-there, kept-frame}
 use Rattle.slot_claims.proofs.Content.{tests-exactly}

@@ -8,10 +8,11 @@ use Rattle.refusal.proofs.FirstLaws.{first-skip, first-end, if-accepted}
 use Rattle.slot.specs.declared.status.Reason.the-variants as reason
 use Rattle.slot.specs.declared.status.Kept.the-variants as kept
 use Rattle.slot.specs.declared.status.Status.{Status}
-use Rattle.slot.specs.Judging.{Place, Event, boundaryActivity, ownSending, placeOf, placeBy, fresh, noStatus, isReason, isFrame, hasArrival, brings, after}
+use Rattle.slot.specs.Judging.{Place, placeOf, placeBy, fresh, noStatus, isReason, isFrame, hasArrival}
 use Rattle.slot.specs.Opening.{openingRefusals, Told}
 use Rattle.slot.specs.Sound.{sound}
-use Rattle.slot.specs.Events.{eventRefusals}
+use Rattle.slot_events.specs.Effect.{Event, boundaryActivity, ownSending, brings, after}
+use Rattle.slot_events.specs.Events.{eventRefusals}
 use Rattle.slot_claims.specs.Histories.{Arrives, ArrivesRefused, Misses, PassesAll, Occurs, Some, History, HistoryOne, Calls, NoneRefused, Histories}
 use Rattle.numbers.proofs.Truth.{both-true, true-both, same-true}
 use Rattle.slot_claims.proofs.ReasonLaws.{reason-there, there-reason, no-reason, frame-there, no-frame}

@@ -1,4 +1,4 @@
-pub mod Truth
+pub mod FirstLaws
 pub mod ReasonLaws
 pub mod Answers
 pub mod Sheet

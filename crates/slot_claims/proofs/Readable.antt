@@ -11,9 +11,11 @@ use Rattle.refusal.specs.Refusal.{first}
 use Rattle.division.specs.Bits.{odd, bytesOf, AreBytes}
 use Rattle.division.proofs.BytesLaws.{length-bytes-of, are-bytes-of}
 use Rattle.checksum.specs.declared.Channel.{Channel}
-use Rattle.frame.specs.declared.header.Header.{Header}
-use Rattle.frame.specs.Layout.{mostWords, headerChecksumOf, Frame}
-use Rattle.frame.specs.Refusals.{startupWithoutSync, notAnId, badPayload, cycleTooHigh}
+use Rattle.header.specs.declared.Header.{Header}
+use Rattle.header.specs.Layout.{mostWords, headerChecksumOf}
+use Rattle.header.specs.Refusals.{startupWithoutSync, notAnId, cycleTooHigh}
+use Rattle.frame.specs.Layout.{Frame}
+use Rattle.frame.specs.Refusals.{badPayload}
 use Rattle.frame.specs.Read as read
 use Rattle.frame.specs.Read.{headerRead, refusalsOn}
 use Rattle.frame.specs.Write.{headerOf, frameBytes}
@@ -21,7 +23,7 @@ use Rattle.frame_claims.specs.Exact.{fieldsOf}
 use Rattle.frame_claims.proofs.Reading.{none-of-seven-read, id-small, words-small, cycle-small, frame-header, frame-accepted}
 use Rattle.frame_claims.proofs.Exact.{written-frame}
 use Rattle.slot.specs.Sound.{couldBeRead}
-use Rattle.slot.proofs.EventLaws.{accepted-none}
+use Rattle.slot_events.proofs.EventLaws.{accepted-none}
 use Rattle.slot_claims.specs.Sound.{Readable, CouldBeReadExactly}
 use Rattle.numbers.proofs.Truth.{both-true}
 

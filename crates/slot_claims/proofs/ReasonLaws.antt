@@ -2,12 +2,13 @@
 use mathlib.Core.Path.{_≡_, refl, sym, ap, _∙_}
 use mathlib.Core.Bool.{Bool, true, false, false≢true, cond}
 use mathlib.Core.Logic.{_⊎_, inl, inr}
-use Rattle.frame.specs.declared.header.Header.{Header}
+use Rattle.header.specs.declared.Header.{Header}
 use Rattle.slot.specs.declared.status.Reason.{Reason}
 use Rattle.slot.specs.declared.status.Reason.the-variants.{NoReason, OtherId, OtherCycle, OtherWords, SyncOrStartup, NullFrame}
 use Rattle.slot.specs.declared.status.Kept.{Kept}
 use Rattle.slot.specs.declared.status.Kept.the-variants.{Nothing, Frame}
-use Rattle.slot.specs.Judging.{isReason, isFrame, keptBy}
+use Rattle.slot.specs.Judging.{isReason, isFrame}
+use Rattle.slot_events.specs.Effect.{keptBy}
 
 none-or-some : (r : Reason) → (r ≡ NoReason) ⊎ (isReason r ≡ true)
 none-or-some NoReason = inl refl

@@ -3,7 +3,7 @@ use mathlib.Core.Path.{_≡_, refl, sym, ap, _∙_, subst}
 use mathlib.Core.Bool.{Bool, true, false, false≢true, _||_, cond}
 use mathlib.Core.List.{List, [], _∷_, _++_, List·Memᴰ, List·Memᴰ·head, List·Memᴰ·tail, List·Memᴰ·not-nil, List·Memᴰ·cases-cons}
 use mathlib.Core.Logic.{_⊎_, inl, inr, _↔_}
-use Rattle.slot.specs.Judging.{Event}
+use Rattle.slot_events.specs.Effect.{Event}
 use Rattle.slot_claims.specs.Histories.{Some, First}
 use Rattle.numbers.proofs.Truth.{either-true, true-left, true-right}
 

@@ -6,24 +6,25 @@ use borrow.Author.Tests.{eqb-true, eq-eqb, not-false}
 use Rattle.refusal.specs.Refusal.{first}
 use Rattle.refusal.proofs.FirstLaws.{first-skip, first-end, first-zero, if-accepted}
 use Rattle.checksum.specs.Channel.{notAChannel, channelOf, numberOf}
-use Rattle.frame.specs.declared.header.Slot.{Slot}
-use Rattle.frame.specs.declared.header.Cycle.{Cycle}
-use Rattle.frame.specs.declared.header.Header.{Header}
-use Rattle.frame.specs.Refusals.{notAnId, cycleTooHigh}
+use Rattle.header.specs.declared.Slot.{Slot}
+use Rattle.header.specs.declared.Cycle.{Cycle}
+use Rattle.header.specs.declared.Header.{Header}
+use Rattle.header.specs.Refusals.{notAnId, cycleTooHigh}
 use Rattle.frame.specs.Read.{headerRead, refusalsOn}
 use Rattle.settings.specs.declared.Settings.{Settings}
 use Rattle.settings.specs.Sheet.{firstOutside, outOfRange}
 use Rattle.slot.specs.declared.status.Reason.the-variants as reason
 use Rattle.slot.specs.declared.status.Kept.the-variants as kept
 use Rattle.slot.specs.declared.status.Status.{Status}
-use Rattle.slot.specs.Judging.{Place, Event, Brought, arrival, boundaryActivity, ownSending, placeOf, placeBy, fresh, noStatus, firstMiss, keptBy, isReason, isFrame, hasArrival, isRefused, ofArrival, brings, joined, after}
+use Rattle.slot.specs.Judging.{Place, placeOf, placeBy, fresh, noStatus, firstMiss, isReason, isFrame, hasArrival}
 use Rattle.slot.specs.Opening.{openingRefusals, Told}
 use Rattle.slot.specs.Sound.{couldBeRead, keepsWell, sound}
-use Rattle.slot.specs.Events.{eventRefusals}
+use Rattle.slot_events.specs.Effect.{Event, Brought, arrival, boundaryActivity, ownSending, keptBy, isRefused, ofArrival, brings, joined, after}
+use Rattle.slot_events.specs.Events.{eventRefusals}
 use Rattle.checksum.proofs.ChannelLaws.{is-a-channel}
 use Rattle.slot_claims.specs.Sound.{NoStatusUnsound, OpenedSound, EventSound}
 use Rattle.numbers.proofs.Truth.{true-both, true-left}
-use Rattle.slot_claims.proofs.Truth.{first-is, first-has}
+use Rattle.slot_claims.proofs.FirstLaws.{first-is, first-has}
 use Rattle.slot_claims.proofs.Readable.{read-could}
 use Rattle.slot_claims.proofs.Sound.{clauses, clauses-sound}
 

@@ -10,17 +10,18 @@ use lib.ListN.{length, take, drop, length-drop, drop-of-length-le}
 use lib.Seq.{take-all, drop-drop}
 use Rattle.refusal.specs.Refusal.{first}
 use Rattle.refusal.proofs.FirstLaws.{if-accepted}
-use Rattle.frame.specs.declared.header.Slot.{Slot}
-use Rattle.frame.specs.declared.header.Cycle.{Cycle}
+use Rattle.header.specs.declared.Slot.{Slot}
+use Rattle.header.specs.declared.Cycle.{Cycle}
 use Rattle.settings.specs.declared.Settings.{Settings}
 use Rattle.slot.specs.declared.status.Status.{Status}
 use Rattle.slot.specs.declared.opening.Opened.{Opened}
-use Rattle.slot.specs.declared.events.Judged.{Judged}
-use Rattle.slot.specs.Judging.{Event, placeBy, fresh, noStatus, after}
+use Rattle.slot.specs.Judging.{placeBy, fresh, noStatus}
 use Rattle.slot.specs.Opening.{openingRefusals, Told, told, OpenSays}
 use Rattle.slot.specs.Sound.{sound}
-use Rattle.slot.specs.Events.{eventRefusals, leftBy, EventSays}
-use Rattle.slot.proofs.EventLaws as laws
+use Rattle.slot_events.specs.declared.Judged.{Judged}
+use Rattle.slot_events.specs.Effect.{Event, after}
+use Rattle.slot_events.specs.Events.{eventRefusals, leftBy, EventSays}
+use Rattle.slot_events.proofs.EventLaws as laws
 use Rattle.slot_claims.specs.Sheet.{TypedSettings, FieldTold}
 use Rattle.slot_claims.specs.Histories.{Calls}
 use Rattle.slot_claims.specs.Witnesses.{OpenedWell, JudgedWell, Played}

@@ -4,17 +4,18 @@
 use Prim.Native.Nat.{ℕ}
 use mathlib.Core.Path.{_≡_}
 use Rattle.refusal.specs.Refusal.{InOrder}
-use Rattle.frame.specs.declared.header.Slot.{Slot}
-use Rattle.frame.specs.declared.header.Cycle.{Cycle}
+use Rattle.header.specs.declared.Slot.{Slot}
+use Rattle.header.specs.declared.Cycle.{Cycle}
 use Rattle.settings.specs.declared.Settings.{Settings}
 use Rattle.slot.specs.declared.status.Status.{Status}
 use Rattle.slot.specs.declared.opening.Opened.{Opened}
-use Rattle.slot.specs.declared.events.Judged.{Judged}
-use Rattle.slot.specs.Judging.{Event, noStatus}
+use Rattle.slot.specs.Judging.{noStatus}
 use Rattle.slot.specs.Opening as opening
 use Rattle.slot.specs.Opening.{openingRefusals, OpenSays}
-use Rattle.slot.specs.Events as event
-use Rattle.slot.specs.Events.{eventRefusals, EventSays}
+use Rattle.slot_events.specs.declared.Judged.{Judged}
+use Rattle.slot_events.specs.Effect.{Event}
+use Rattle.slot_events.specs.Events as event
+use Rattle.slot_events.specs.Events.{eventRefusals, EventSays}
 
 -- ---- any two results that a statement allows are equal: answer and whole status
 

@@ -4,7 +4,7 @@ use Prim.Native.Nat.{_<_, _≤_}
 use mathlib.Core.Path.{_≡_}
 use mathlib.Core.Bool.{true, false}
 use mathlib.Core.Logic.{_⊎_, _↔_}
-use Rattle.frame.specs.declared.header.Header.{Header}
+use Rattle.header.specs.declared.Header.{Header}
 use Rattle.settings.specs.Sheet.{staticPayloadWords, staticSlots}
 use Rattle.slot.specs.declared.status.Reason.{Reason}
 use Rattle.slot.specs.declared.status.Reason.the-variants.{NoReason, OtherId, OtherCycle, OtherWords, SyncOrStartup, NullFrame}

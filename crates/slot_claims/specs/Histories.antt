@@ -6,9 +6,9 @@ use mathlib.Core.Path.{_≡_}
 use mathlib.Core.Bool.{true}
 use mathlib.Core.List.{List, [], _∷_, _++_, List·Memᴰ}
 use mathlib.Core.Logic.{_↔_}
-use Rattle.frame.specs.declared.header.Slot.{Slot}
-use Rattle.frame.specs.declared.header.Cycle.{Cycle}
-use Rattle.frame.specs.declared.header.Header.{Header}
+use Rattle.header.specs.declared.Slot.{Slot}
+use Rattle.header.specs.declared.Cycle.{Cycle}
+use Rattle.header.specs.declared.Header.{Header}
 use Rattle.frame.specs.declared.reader.Reading.the-variants.{Accepted}
 use Rattle.frame.specs.Read.{ReadOnSays}
 use Rattle.settings.specs.declared.Settings.{Settings}
@@ -17,12 +17,13 @@ use Rattle.slot.specs.declared.status.Reason.the-variants.{NoReason}
 use Rattle.slot.specs.declared.status.Kept.the-variants.{Frame}
 use Rattle.slot.specs.declared.status.Status.{Status}
 use Rattle.slot.specs.declared.opening.Opened.{Opened}
-use Rattle.slot.specs.declared.events.Judged.{Judged}
-use Rattle.slot.specs.Judging.{Place, Event, arrival, boundaryActivity, ownSending, placeOf, placeBy}
+use Rattle.slot.specs.Judging.{Place, placeOf, placeBy}
 use Rattle.slot.specs.Opening as opening
 use Rattle.slot.specs.Opening.{OpenSays}
-use Rattle.slot.specs.Events as event
-use Rattle.slot.specs.Events.{EventSays}
+use Rattle.slot_events.specs.declared.Judged.{Judged}
+use Rattle.slot_events.specs.Effect.{Event, arrival, boundaryActivity, ownSending}
+use Rattle.slot_events.specs.Events as event
+use Rattle.slot_events.specs.Events.{EventSays}
 use Rattle.slot_claims.specs.Content.{Passes, FirstMissed}
 
 -- ---- one event

@@ -8,7 +8,8 @@ use Rattle.settings.specs.declared.Range.{Range}
 use Rattle.settings.specs.declared.Settings.{Settings}
 use Rattle.settings.specs.Sheet.{fieldCount, field, _to_, ranges, within, firstOutOfRange}
 use Rattle.slot.specs.declared.status.Status.{Status}
-use Rattle.slot.specs.Judging.{Place, Event, fresh, noStatus, after}
+use Rattle.slot.specs.Judging.{Place, fresh, noStatus}
+use Rattle.slot_events.specs.Effect.{Event, after}
 
 -- What the type of the settings says: a sheet has eleven fields.
 abbrev pub TypedSettings : Settings → Type 0

@@ -6,18 +6,19 @@ use mathlib.Core.List.{List, [], _∷_}
 use lib.Dec.{eqb}
 use lib.ListN.{take, drop}
 use Rattle.refusal.specs.Refusal.{first, InOrder}
-use Rattle.frame.specs.declared.header.Slot.{Slot}
-use Rattle.frame.specs.declared.header.Cycle.{Cycle}
+use Rattle.header.specs.declared.Slot.{Slot}
+use Rattle.header.specs.declared.Cycle.{Cycle}
 use Rattle.settings.specs.declared.Settings.{Settings}
 use Rattle.slot.specs.declared.status.Status.{Status}
 use Rattle.slot.specs.declared.opening.Opened.{Opened}
-use Rattle.slot.specs.declared.events.Judged.{Judged}
-use Rattle.slot.specs.Judging.{Event, arrival, boundaryActivity, ownSending, placeBy, fresh, noStatus, after}
+use Rattle.slot.specs.Judging.{placeBy, fresh, noStatus}
 use Rattle.slot.specs.Opening as opening
 use Rattle.slot.specs.Opening.{openingRefusals}
 use Rattle.slot.specs.Sound.{sound}
-use Rattle.slot.specs.Events as event
-use Rattle.slot.specs.Events.{eventRefusals}
+use Rattle.slot_events.specs.declared.Judged.{Judged}
+use Rattle.slot_events.specs.Effect.{Event, arrival, boundaryActivity, ownSending, after}
+use Rattle.slot_events.specs.Events as event
+use Rattle.slot_events.specs.Events.{eventRefusals}
 use Rattle.slot_claims.specs.Sheet.{FieldTold}
 use Rattle.slot_claims.specs.Histories.{History}
 

@@ -4,16 +4,16 @@ ghost use mathlib.Core.Path.{_≡_};
 ghost use mathlib.Core.Bool.{true, false};
 ghost use mathlib.Core.Logic.{_↔_};
 ghost use Prim.Native.Nat.{_+_, _-_, _≤_, min};
-ghost use Rattle.slot.specs.Judging.{arrival, boundaryActivity, ownSending};
-ghost use Rattle.slot.specs.Events.{leftBy};
+ghost use Rattle.slot_events.specs.Effect.{arrival, boundaryActivity, ownSending};
+ghost use Rattle.slot_events.specs.Events.{leftBy};
 ghost use Rattle.slot_claims.specs.Sound.{SoundStatus};
 ghost use Rattle.slot_claims.specs.Witnesses.{OpenedWell, JudgedWell, eventOf, eventsOf, Played};
-use frame::Cycle;
-use frame::Slot;
+use header::Cycle;
+use header::Slot;
 use settings::Settings;
-use slot::Judged;
 use slot::Opened;
 use slot::Status;
+use slot_events::Judged;
 
 // Whether a status is sound: exactly where it meets 01's sentence.
 pub fn is_sound_in_words(status: Status) -> bool
@@ -40,19 +40,19 @@ pub fn opened(settings: Settings, channel: u8, slot: Slot, cycle: Cycle) -> Open
 pub fn judged_arrival(status: Status, bytes: &[u8]) -> Judged
     ensures { λ r. ⌜ JudgedWell status (arrival (now (bytes .entry))) r ⌝ }
 {
-    slot::arrived(status, bytes)
+    slot_events::arrived(status, bytes)
 }
 
 pub fn judged_boundary(status: Status) -> Judged
     ensures { λ r. ⌜ JudgedWell status boundaryActivity r ⌝ }
 {
-    slot::boundary(status)
+    slot_events::boundary(status)
 }
 
 pub fn judged_sending(status: Status) -> Judged
     ensures { λ r. ⌜ JudgedWell status ownSending r ⌝ }
 {
-    slot::sent(status)
+    slot_events::sent(status)
 }
 
 // One event, by its number: 0 is boundary activity, 1 own sending, and any other an arrival.
@@ -60,14 +60,14 @@ fn happened(status: Status, number: u16, bytes: &[u8]) -> Status
     ensures { λ r. ⌜ r ≡ leftBy status (eventOf number (now (bytes .entry))) ⌝ }
 {
     if number == 0 {
-        let judged = slot::boundary(status);
+        let judged = slot_events::boundary(status);
         return judged.status;
     }
     if number == 1 {
-        let judged = slot::sent(status);
+        let judged = slot_events::sent(status);
         return judged.status;
     }
-    let judged = slot::arrived(status, bytes);
+    let judged = slot_events::arrived(status, bytes);
     judged.status
 }
 

@@ -7,7 +7,7 @@ use mathlib.Core.List.{List, [], _∷_}
 use lib.IntN.{ℤ, pos, negℤ}
 use lib.ListN.{length}
 use Rattle.refusal.specs.Refusal.{first}
-use Rattle.frame.specs.declared.header.Fields.{Fields}
+use Rattle.header.specs.declared.Fields.{Fields}
 use Rattle.frame.specs.Read.{refusals}
 use Rattle.frame.specs.Write.{headerOf, headerAndPayload}
 use Rattle.midpoint.specs.Midpoint.{midpoint}

@@ -11,7 +11,7 @@ use lib.ListN.{List·getD-eq-default, drop, getD, length, length-map, set, take}
 use lib.Seq.{getD-take, length-take-le, take-all}
 use Rattle.numbers.proofs.Walk.{cases}
 use Rattle.checksum.specs.declared.Channel.{Channel}
-use Rattle.frame.specs.declared.header.Slot.{Slot}
+use Rattle.header.specs.declared.Slot.{Slot}
 use Rattle.sync_list.specs.declared.list.SyncList.{SyncList}
 use Rattle.sync_list.specs.declared.row.Measurement.{Measurement}
 use Rattle.sync_list.specs.declared.row.Row.{Row}

@@ -12,8 +12,8 @@ use mir.Val.{SFits}
 use Rattle.numbers.proofs.Signed.{up, dn, le-sums, sub-sums, one-sided, sfits-by}
 use Rattle.numbers.proofs.Truth.{both-true}
 use Rattle.midpoint.proofs.RangeLaws.{Near, Within, none, more, half-within}
-use Rattle.frame.specs.declared.header.Slot.{Slot}
-use Rattle.frame.specs.Refusals.{notAnId}
+use Rattle.header.specs.declared.Slot.{Slot}
+use Rattle.header.specs.Refusals.{notAnId}
 use Rattle.correction.specs.declared.value.Value.{Value}
 use Rattle.correction.specs.declared.value.Value.the-variants as value
 use Rattle.correction.specs.Microtick.{lowestDeviation, highestDeviation, isDeviation, held, whole}

@@ -5,7 +5,7 @@ use mathlib.Core.List.{List, [], _∷_, map}
 use lib.Dec.{eqb, leb, ltb}
 use lib.ListN.{getD, replicate, set, take}
 use Rattle.checksum.specs.declared.Channel.{Channel}
-use Rattle.frame.specs.declared.header.Slot.{Slot}
+use Rattle.header.specs.declared.Slot.{Slot}
 use Rattle.correction.specs.Terms.{mostIds}
 use Rattle.sync_list.specs.declared.row.Measurement.{Measurement}
 use Rattle.sync_list.specs.declared.row.Row.{Row}

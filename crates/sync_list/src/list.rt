@@ -5,7 +5,7 @@ use crate::places;
 use crate::row::Measurement;
 use crate::row::Row;
 use checksum::Channel;
-use frame::Slot;
+use header::Slot;
 
 // How many rows there is room for.
 pub const ROWS: usize = correction::MOST_IDS;

@@ -5,7 +5,7 @@ use checksum::Channel;
 use correction::Deviations;
 use correction::SignedMicrotick;
 use correction::Value;
-use frame::Slot;
+use header::Slot;
 
 pub struct Measurement {
     pub deviation: SignedMicrotick,

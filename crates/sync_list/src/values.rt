@@ -1,9 +1,13 @@
 // The values that the IDs of a list add to a midpoint.
 ghost use mathlib.Core.Path.{_≡_};
+ghost use mathlib.Core.List.{[], _++_};
+ghost use Prim.Native.Nat.{suc, _≤_, _<_};
+ghost use lib.ListN.{length, take};
+ghost use Rattle.midpoint.specs.Midpoint.{mostValues};
 ghost use Rattle.correction.specs.Microtick.{held};
 ghost use Rattle.correction.specs.Terms.{valuesIn};
 ghost use Rattle.sync_list.specs.Lists.{listed};
-ghost use Rattle.sync_list.specs.Values.{offsetValues, rateValuesBy};
+ghost use Rattle.sync_list.specs.Values.{before, offsetValues, rateValuesBy};
 use crate::list::SyncList;
 use crate::places;
 use crate::row::Row;
@@ -23,14 +27,7 @@ impl SyncList {
         while i < listed {
             let row = rows[i];
             let value = correction::offset_value(row.deviations());
-            match value {
-                Value::Absent => {}
-                Value::Is(x) => {
-                    let number = x.0;
-                    numbers[count] = number;
-                    count += 1;
-                }
-            }
+            count = lay(&mut numbers, count, value);
             i += 1;
         }
         Values { numbers, count }
@@ -56,16 +53,24 @@ impl SyncList {
                 even_row = even_rows[place];
             }
             let value = correction::rate_value(row.deviations(), even_row.deviations());
-            match value {
-                Value::Absent => {}
-                Value::Is(x) => {
-                    let number = x.0;
-                    numbers[count] = number;
-                    count += 1;
-                }
-            }
+            count = lay(&mut numbers, count, value);
             i += 1;
         }
         Values { numbers, count }
     }
+}
+
+// Lays a value behind the first `count` numbers, where it is one, and answers how many there are then. (The proof of a function is
+// not told how long an array is that is lent to it, so the length is required and ensured.)
+fn lay(numbers: &mut [i32; midpoint::MOST], count: usize, value: Value) -> usize
+    requires { ⌜ (count < mostValues) × (length (now numbers) ≡ mostValues) ⌝ }
+    ensures { λ r. ⌜ take r (now (numbers .exit)) ≡ take count (now (numbers .entry)) ++ before value [] ⌝ }
+    ensures { λ r. ⌜ (r ≤ suc count) × (length (now (numbers .exit)) ≡ mostValues) ⌝ }
+{
+    let Value::Is(x) = value else {
+        return count;
+    };
+    let number = x.0;
+    numbers[count] = number;
+    count + 1
 }

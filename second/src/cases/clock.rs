@@ -6,6 +6,7 @@ mod cycles;
 mod damping;
 mod limits;
 mod listed;
+mod listed_terms;
 mod loading;
 mod measuring;
 mod midpoints;
@@ -19,6 +20,7 @@ use crate::plan::Plan;
 use crate::random::Random;
 
 pub use listed::NUMBERS;
+pub use listed_terms::TERMS;
 pub use measuring::UNSOUND_STATUSES;
 pub use unlooked::COUNTS;
 
@@ -26,6 +28,7 @@ pub fn add(plan: &mut Plan, random: &mut Random) {
     // First, as it needs the state of the start.
     loading::add(plan, random);
     listed::add(plan, random);
+    listed_terms::add(plan, random);
     cycles::add(plan, random);
     measuring::add(plan, random);
     sync_limits::add(plan, random);

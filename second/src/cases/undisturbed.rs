@@ -1,11 +1,11 @@
 //! Frame commands between two showings of a status: they are about no slot, and the status stays as it is.
 
 use crate::channel::Channel;
-use crate::faults::{faulty_checksum, faulty_read, faulty_write};
+use crate::faults::{faulty_bench, faulty_checksum, faulty_read, faulty_write};
 use crate::history::{demanded, play_opened, show, Happening};
 use crate::plan::Plan;
 use crate::random::Random;
-use crate::refusal::Refusal;
+use crate::refusal::{Refusal, READ_ORDER};
 use crate::scene::{Kind, Scene};
 use crate::slot_note::{SlotNote, Sort};
 
@@ -17,6 +17,7 @@ pub fn add(plan: &mut Plan, random: &mut Random) {
                 add_undisturbed(plan, random, &scene, arrival);
             }
         }
+        add_bench_lines(plan, random, channel);
     }
 }
 
@@ -25,7 +26,7 @@ fn add_undisturbed(plan: &mut Plan, random: &mut Random, scene: &Scene, arrival:
     let history = [Happening::any(random, scene, arrival)];
     let held = demanded(&scene.fresh(), &history);
     play_opened(plan, scene, &history);
-    // The channel is the one cause that all three entries have.
+    // The channel is the one cause that all four entries have.
     for faults in [&[][..], &[Refusal::Channel]] {
         add_frame_commands(plan, random, faults);
         show(plan, &held);
@@ -34,7 +35,25 @@ fn add_undisturbed(plan: &mut Plan, random: &mut Random, scene: &Scene, arrival:
 }
 
 fn add_frame_commands(plan: &mut Plan, random: &mut Random, faults: &[Refusal]) {
-    for command in [faulty_checksum(random, faults), faulty_read(random, faults), faulty_write(random, faults)] {
-        plan.add_faulty(command, faults);
+    let commands = [
+        faulty_checksum(random, faults),
+        faulty_read(random, faults),
+        faulty_write(random, faults),
+        faulty_bench(random, faults),
+    ];
+    commands.into_iter().for_each(|command| plan.add_faulty(command, faults));
+}
+
+/// Every answer of the bench program, whose frames are read like those that arrive in the slot.
+fn add_bench_lines(plan: &mut Plan, random: &mut Random, channel: Channel) {
+    let scene = Scene::fair(random, channel, Kind::Static);
+    let history = [Happening::any(random, &scene, Sort::Missing)];
+    let held = demanded(&scene.fresh(), &history);
+    play_opened(plan, &scene, &history);
+    plan.add_faulty(faulty_bench(random, &[]), &[]);
+    show(plan, &held);
+    for refusal in READ_ORDER {
+        plan.add_faulty(faulty_bench(random, &[refusal]), &[refusal]);
+        show(plan, &held);
     }
 }

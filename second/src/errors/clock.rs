@@ -1,16 +1,16 @@
 //! Script errors in the commands of the clock, and bytes in them that look wrong but are no error.
 
-use super::{bytes_of, small, with_byte, Small, SENDS_SYNC, SETTINGS, STATUS_SHOWN};
+use super::{broken, bytes_of, with_byte, with_wrong_byte, Small, SENDS_SYNC, SETTINGS, STATUS_SHOWN};
 use crate::clock::Times;
 use crate::clock_numbers::{ClockNumbers, ListNumbers};
 use crate::clock_scene::{list, row};
 use crate::closing::Controls;
-use crate::script::Command;
+use crate::script::{Cause, Command};
 
 /// Where a byte stands in `K`, the letter at place 0.
-const OPEN: usize = 46;
+pub const OPEN: usize = 46;
 const CYCLE: usize = 47;
-const CLOSED: usize = 48;
+pub const CLOSED: usize = 48;
 const LAST: usize = 49;
 const EVEN_COUNT: usize = 54;
 const FIRST_SEEN: usize = 57;
@@ -51,12 +51,12 @@ pub(super) fn ends_inside() -> Vec<Small> {
         [Command::Load(SETTINGS), Command::OpenCycle(4), Command::Measure(times), Command::CloseCycle(Controls::NONE)];
     let mut all = Vec::new();
     for script in shorter.map(|command| bytes_of(&command)) {
-        all.extend((1..script.len()).map(|size| small(&script[..size], "script error at 0\n")));
+        all.extend((1..script.len()).map(|size| broken(Cause::EndInside, &script[..size])));
     }
     // Rows that are not listed must be there as well.
     let put = bytes_of(&Command::put_clock(&clock()));
     let in_rows = (EVEN_COUNT + 1..SIZE).filter(|size| size % 11 < 2).chain([ODD_COUNT, ODD_COUNT + 1, SIZE - 1]);
-    all.extend((1..=EVEN_COUNT).chain(in_rows).map(|size| small(&put[..size], "script error at 0\n")));
+    all.extend((1..=EVEN_COUNT).chain(in_rows).map(|size| broken(Cause::EndInside, &put[..size])));
     all
 }
 
@@ -68,7 +68,7 @@ pub(super) fn wrong_switches() -> Vec<Small> {
     for (command, place) in
         [(&load, SENDS_SYNC), (&put, SENDS_SYNC), (&put, OPEN), (&put, CLOSED), (&off, OPEN), (&off, CLOSED)]
     {
-        all.extend([2, 3, 128, 255].map(|byte| with_byte(command, place, byte, "script error at 2\n")));
+        all.extend([2, 3, 128, 255].map(|byte| with_wrong_byte(command, place, byte, Cause::WrongSwitch)));
     }
     all
 }

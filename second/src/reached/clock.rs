@@ -6,6 +6,7 @@ use std::mem;
 use super::{Reach, Reached};
 use crate::answer::Answer;
 use crate::clock::{Times, LATEST};
+use crate::clock_note::Last;
 use crate::clock_numbers::ClockNumbers;
 use crate::closing::{Closing, Controls};
 use crate::correction::{sum_of_ends, Found};
@@ -66,6 +67,10 @@ pub enum ClockReach {
     SyncSenderLoaded(bool),
     CycleOpened(u8),
     CycleNotOpened(u8),
+    /// An even (0) or odd (1) cycle opened, as the commands before it left the last closed one.
+    Opened(u8, Last),
+    /// The next cycle behind an odd one that was opened so, and an even one.
+    EvenBehind(Last),
     Deviation(i32),
     ObservedTaken(u32),
     ObservedNotTaken(u32),
@@ -78,12 +83,18 @@ pub enum ClockReach {
     Flag(usize, bool, bool),
     /// How many values, and whether the node's own zero is one of them.
     Values(Term, usize, bool),
+    /// So many values, of which another number discarded at each end, namely this, would give another term.
+    OtherDiscarded(Term, usize, usize),
     HalfOfMidpoint(Term, OddSum),
     HalfOfChannels(OddSum),
     /// Whether the limit is 0, and where the term stands against it.
     Limit(Term, bool, Place),
+    /// The limit, the term before it, and whether it is flagged.
+    Limited(Term, i64, i64, bool),
     /// Whether d is 0, and where x stands against it.
     Damping(bool, Place),
+    /// d and x.
+    Damped(i64, i64),
     /// A control, whether the cycle is odd and whether the term is missing.
     Control(Term, i8, bool, bool),
     /// The external term led beyond the limit, upwards or not.
@@ -119,7 +130,9 @@ impl Reached {
         answers.for_each(|(letter, number)| self.add(Reach::ClockStayed(letter, number)));
     }
 
+    /// No cycle is closed behind a load, taken or refused.
     pub(super) fn add_load(&mut self, settings: &Settings, answer: &Answer) {
+        (self.last_closed, self.odd_opened) = (None, None);
         if let Answer::Loaded(Err(_), field) = answer {
             return self.add_clock(ClockReach::FieldNotLoaded(*field, settings.field(*field)));
         }
@@ -131,10 +144,23 @@ impl Reached {
 
     pub(super) fn add_open_cycle(&mut self, cycle: u8, answer: &Answer) {
         match answer.refusal() {
-            None => self.add_clock(ClockReach::CycleOpened(cycle)),
+            None => self.add_opened_cycle(cycle),
             Some(Refusal::Cycle) => self.add_clock(ClockReach::CycleNotOpened(cycle)),
             _ => (),
         }
+    }
+
+    fn add_opened_cycle(&mut self, cycle: u8) {
+        let (odd, last) = (cycle % 2 == 1, Last::of(self.last_closed, cycle));
+        self.add_clock(ClockReach::CycleOpened(cycle));
+        self.add_clock(ClockReach::Opened(cycle % 2, last));
+        let before = self.odd_opened.take().filter(|_| !odd);
+        before.into_iter().for_each(|before| self.add_clock(ClockReach::EvenBehind(before)));
+        self.odd_opened = odd.then_some(last);
+    }
+
+    pub(super) fn add_put_clock(&mut self, numbers: &ClockNumbers) {
+        (self.last_closed, self.odd_opened) = (numbers.closed.then_some(numbers.last), None);
     }
 
     pub(super) fn add_measure(&mut self, times: &Times, answer: &Answer) {
@@ -173,6 +199,7 @@ impl Reached {
     }
 
     fn add_closing(&mut self, closing: &Closing) {
+        self.last_closed = Some(closing.cycle);
         let odd = closing.cycle % 2 == 1;
         let flags = closing.flags();
         self.add_clock(ClockReach::Ids(odd, closing.deviations.len()));
@@ -196,7 +223,9 @@ impl Reached {
         };
         let count = found.values.len();
         self.add_clock(ClockReach::Values(term, count, count > received));
+        self.add_others_discarded(term, found);
         self.add_clock(ClockReach::Limit(term, found.limit == 0, Place::of(found.term, found.limit)));
+        self.add_clock(ClockReach::Limited(term, found.limit, found.term, found.is_limited()));
         if let Some(odd_sum) = OddSum::of(sum_of_ends(&found.values)) {
             self.add_clock(ClockReach::HalfOfMidpoint(term, odd_sum));
         }
@@ -206,6 +235,15 @@ impl Reached {
         if term == Term::Rate {
             let place = Place::of(found.undamped, found.damping);
             self.add_clock(ClockReach::Damping(found.damping == 0, place));
+            self.add_clock(ClockReach::Damped(found.damping, found.undamped));
+        }
+    }
+
+    fn add_others_discarded(&mut self, term: Term, found: &Found) {
+        for ends in 0..=2 {
+            if found.if_discarded(ends).is_some_and(|other| other != found.within_limit()) {
+                self.add_clock(ClockReach::OtherDiscarded(term, found.values.len(), ends));
+            }
         }
     }
 

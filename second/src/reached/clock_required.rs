@@ -1,17 +1,18 @@
 //! What a script must reach of the clock.
 
 use std::cmp::Ordering;
+use std::ops::RangeInclusive;
 
 use super::clock::{ClockReach, OddSum, Place, Term};
 use super::frames::required_answers;
 use super::slots::{self, wrong_fields};
 use super::{coincidences, Reach};
-use crate::cases::clock::{COUNTS, NUMBERS, UNSOUND_STATUSES};
+use crate::cases::clock::{COUNTS, NUMBERS, TERMS, UNSOUND_STATUSES};
 use crate::channel::Channel;
 use crate::clock_note::{ClockClause, ClockNote, Last, Unfit};
 use crate::plan::Note;
 use crate::refusal::{Refusal, CLOSE_CYCLE_ORDER, MEASURE_ORDER, OPEN_CYCLE_ORDER};
-use crate::settings::{self, FIELDS, SYNC_ID_LIMIT};
+use crate::settings::{self, DRIFT_DAMPING, FIELDS, OFFSET_LIMIT, RATE_LIMIT, SYNC_ID_LIMIT};
 
 const ENTRIES: [char; 3] = ['O', 'M', 'C'];
 
@@ -22,7 +23,8 @@ const BOTH: [bool; 2] = [false, true];
 pub(super) fn all() -> Vec<Reach> {
     let mut all = answers();
     all.extend(stayed());
-    let reached = [commands(), flags(), values(), limits(), controls(), of_ids()];
+    let reached =
+        [commands(), opened(), flags(), values(), discarded(), limits(), ends_of_limits(), controls(), of_ids()];
     all.extend(reached.concat().into_iter().map(Reach::Clock));
     let notes = [loads(), cycles(), measures(), sync_limits(), unlooked(), clauses()];
     all.extend(notes.concat().into_iter().map(|note| Reach::Noted(Note::Clock(note))));
@@ -78,6 +80,16 @@ fn commands() -> Vec<ClockReach> {
     all
 }
 
+/// Gaps between cycles and none, and an even cycle behind each.
+fn opened() -> Vec<ClockReach> {
+    let mut all = Vec::new();
+    for last in Last::ALL {
+        all.extend([0, 1].map(|parity| ClockReach::Opened(parity, last)));
+        all.push(ClockReach::EvenBehind(last));
+    }
+    all
+}
+
 /// The rate's two are clear in even cycles.
 fn flags() -> Vec<ClockReach> {
     let mut all = Vec::new();
@@ -106,6 +118,22 @@ fn values() -> Vec<ClockReach> {
     all
 }
 
+/// 01 "Clock": how many are discarded at each end of so many values.
+const DISCARDED: [(RangeInclusive<usize>, usize); 3] = [(1..=2, 0), (3..=7, 1), (8..=16, 2)];
+
+/// For every number of values, each other number that could be discarded and would leave some.
+fn discarded() -> Vec<ClockReach> {
+    let mut all = Vec::new();
+    for (counts, right) in DISCARDED {
+        for count in counts {
+            let others = (0..=2).filter(|other| *other != right && 2 * other < count);
+            let of_terms = others.flat_map(|other| Term::BOTH.map(|term| (term, other)));
+            all.extend(of_terms.map(|(term, other)| ClockReach::OtherDiscarded(term, count, other)));
+        }
+    }
+    all
+}
+
 fn places(bound_is_0: bool) -> Vec<Place> {
     if bound_is_0 {
         return vec![Place::Above, Place::AtTop, Place::Below];
@@ -122,6 +150,23 @@ fn limits() -> Vec<ClockReach> {
         }
     }
     all.extend(Term::BOTH.into_iter().flat_map(|term| BOTH.map(|up| ClockReach::BeyondLimit(term, up))));
+    all
+}
+
+/// At a limit a term isn't flagged, one beyond it is: limits 0, 1 and the highest. The same places for the damping.
+fn ends_of_limits() -> Vec<ClockReach> {
+    let mut all = Vec::new();
+    for (term, field) in [(Term::Offset, OFFSET_LIMIT), (Term::Rate, RATE_LIMIT)] {
+        let (_, highest) = settings::ends(field);
+        for limit in [0, 1, i64::from(highest)] {
+            let ends = [(-limit - 1, true), (-limit, false), (limit, false), (limit + 1, true)];
+            all.extend(ends.map(|(x, flagged)| ClockReach::Limited(term, limit, x, flagged)));
+        }
+    }
+    let (_, highest) = settings::ends(DRIFT_DAMPING);
+    for d in [0, 1, i64::from(highest)] {
+        all.extend([-d - 1, -d, d, d + 1].map(|x| ClockReach::Damped(d, x)));
+    }
     all
 }
 
@@ -152,6 +197,7 @@ fn loads() -> Vec<ClockNote> {
     }
     all.extend(['D', 'O', 'M', 'C'].map(ClockNote::Forgotten));
     all.extend(NUMBERS.map(ClockNote::Number01));
+    all.extend(TERMS.map(ClockNote::Number01));
     all
 }
 

@@ -2,6 +2,7 @@
 
 use super::{coincidences, Reach, Reached};
 use crate::answer::Answer;
+use crate::cases::FRAME_NUMBERS;
 use crate::channel::Channel;
 use crate::frame::{Fields, Indicators, HIGHEST_CYCLE, HIGHEST_ID, LARGEST_FRAME, SMALLEST_FRAME};
 use crate::plan::Note;
@@ -82,10 +83,13 @@ pub(super) fn required() -> Vec<Reach> {
 }
 
 pub(super) fn required_answers() -> Vec<Reach> {
-    let mut all = vec![Reach::Answer('F', 0), Reach::Answer('F', 1), Reach::Answer('R', 0), Reach::Answer('W', 0)];
-    all.extend(READ_ORDER.map(|refusal| Reach::Answer('R', refusal.number())));
+    let mut all: Vec<Reach> = ['F', 'R', 'W', 'P'].map(|letter| Reach::Answer(letter, 0)).into();
+    all.push(Reach::Answer('F', Refusal::Channel.number()));
+    for letter in ['R', 'P'] {
+        all.extend(READ_ORDER.map(|refusal| Reach::Answer(letter, refusal.number())));
+    }
     all.extend(WRITE_ORDER.map(|refusal| Reach::Answer('W', refusal.number())));
-    for letter in ['F', 'R', 'W'] {
+    for letter in ['F', 'R', 'W', 'P'] {
         all.extend([2, 3, 128, 255].map(|channel| Reach::ForeignChannel(letter, channel)));
     }
     all
@@ -137,6 +141,7 @@ fn required_notes() -> Vec<Note> {
         Note::HeaderOf01,
     ];
     all.extend((2..=24).map(Note::BurstDamage));
+    all.extend(FRAME_NUMBERS.map(Note::Number));
     all.extend([0, 7, 8, 9, 262, 263, 264].map(Note::SizeOf01));
     all.extend(coincidences('R', &READ_ORDER));
     all.extend(coincidences('W', &WRITE_ORDER));

@@ -5,6 +5,7 @@ use std::mem;
 use super::frames::required_answers;
 use super::{coincidences, Reach, Reached};
 use crate::answer::Answer;
+use crate::cases::SLOT_NUMBERS;
 use crate::channel::Channel;
 use crate::history::with_conflict;
 use crate::plan::Note;
@@ -61,11 +62,19 @@ impl Reached {
 
     pub(super) fn add_shown(&mut self, numbers: &StatusNumbers) {
         if self.from_opening {
-            self.add(Reach::MarksFromOpening(numbers.channel, numbers.marks));
+            self.add_from_opening(numbers);
         }
         // A status that was lost would have no marks, so that without marks the showing proves nothing.
         let answers = mem::take(&mut self.beside_status).into_iter().filter(|_| numbers.marks != 0);
         answers.for_each(|(letter, number)| self.add(Reach::StatusStayed(letter, number)));
+    }
+
+    fn add_from_opening(&mut self, numbers: &StatusNumbers) {
+        self.add(Reach::MarksFromOpening(numbers.channel, numbers.marks));
+        self.add(Reach::ReasonFromOpening(numbers.channel, numbers.reason));
+        if numbers.kept {
+            (0..5).for_each(|place| self.add(Reach::IndicatorKept(place, numbers.header.flags >> place & 1 == 1)));
+        }
     }
 
     /// Marks that an opening and events led to, though 01 leaves no way to them.
@@ -85,12 +94,26 @@ fn marks_from_opening() -> impl Iterator<Item = Reach> {
 
 pub(super) fn required() -> Vec<Reach> {
     let mut all: Vec<Reach> = marks_from_opening().collect();
+    all.extend(from_opening());
     all.extend(answers());
     all.extend(openings());
     all.extend(stayed());
     let notes = [histories(), misses(), borders(), refused_openings(), clauses(), unlooked(), frames_between()];
     all.extend(notes.concat().into_iter().map(|note| Reach::Noted(Note::Slot(note))));
     all.extend(coincidences('S', &OPEN_SLOT_ORDER).into_iter().map(Reach::Noted));
+    all.extend(SLOT_NUMBERS.map(|number| Reach::Noted(Note::Number(number))));
+    all
+}
+
+/// No reason and each of (a) to (e), and kept frames with each bit set and clear.
+fn from_opening() -> Vec<Reach> {
+    let mut all = Vec::new();
+    for channel in Channel::BOTH {
+        all.extend((0..=5).map(|reason| Reach::ReasonFromOpening(channel, reason)));
+    }
+    for place in 0..5 {
+        all.extend([false, true].map(|bit| Reach::IndicatorKept(place, bit)));
+    }
     all
 }
 

@@ -15,7 +15,7 @@ impl Command {
             Command::Checksum(given) | Command::Read(given) => append_on_channel(script, given),
             Command::Write(write) => append_write(script, write),
             Command::OpenSlot(opening) => append_opening(script, opening),
-            Command::Arrived(bytes) => append_sized(script, bytes),
+            Command::Bench(bytes) | Command::Arrived(bytes) => append_sized(script, bytes),
             Command::PutStatus(numbers) => append_status(script, numbers),
             Command::Load(settings) => append_settings(script, settings),
             Command::OpenCycle(cycle) => script.push(*cycle),

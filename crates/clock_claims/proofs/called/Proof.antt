@@ -1,12 +1,13 @@
+-- `called` meets its contract: one call of a sequence, by its kind.
 use borrow.Author.Needs.{needs}
 use Rattle.clock_claims.proofs.called.Statement.{statement}
 use Rattle.clock_claims.proofs.called.Tie as tie
 use Rattle.clock_claims.proofs.called.Reads as reads
 use Rattle.clock_claims.proofs.called.Lts as lts
-use Rattle.clock.proofs.close_cycle.Reads as close-cycle-reads
 use Rattle.clock.proofs.load.Reads as load-reads
-use Rattle.clock.proofs.measure.Reads as measure-reads
 use Rattle.clock.proofs.open_cycle.Reads as open-cycle-reads
+use Rattle.closing.proofs.close_cycle.Reads as close-cycle-reads
+use Rattle.measuring.proofs.measure.Reads as measure-reads
 use Rattle.clock_claims.proofs.control_of.Reads as control-of-reads
 use mathlib.Core.Path.{refl, sym, subst}
 use mir.Syntax.{w32}
@@ -14,8 +15,8 @@ use mir.Val.{SFits}
 use mir.Facts.{toZ-ofZ}
 use Rattle.clock.specs.Loading as loading
 use Rattle.clock.specs.Opening as opening
-use Rattle.clock.specs.Measuring as measuring
-use Rattle.clock.specs.Closing as closing
+use Rattle.measuring.specs.Measuring as measuring
+use Rattle.closing.specs.Closing as closing
 use Rattle.clock_claims.specs.Histories.{Call, Leaves, loaded, opened, measured, closed}
 use Rattle.clock_claims.proofs.Witnesses.{call-0, call-1, call-2, call-3, call-4, call-5}
 

@@ -1,9 +1,10 @@
+-- `closed` meets its contract: what is claimed of closing, of what it returned.
 use borrow.Author.Needs.{needs}
 use Rattle.clock_claims.proofs.closed.Statement.{statement}
 use Rattle.clock_claims.proofs.closed.Tie as tie
 use Rattle.clock_claims.proofs.closed.Reads as reads
 use Rattle.clock_claims.proofs.closed.Lts as lts
-use Rattle.clock.proofs.close_cycle.Reads as close-cycle-reads
+use Rattle.closing.proofs.close_cycle.Reads as close-cycle-reads
 use Rattle.clock_claims.proofs.Witnesses.{closed-well}
 use mir.Facts.{toZ-ofZ}
 

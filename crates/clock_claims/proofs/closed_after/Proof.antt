@@ -1,9 +1,10 @@
+-- `closed_after` meets its contract: what is claimed of a closing behind a sequence of calls.
 use borrow.Author.Needs.{needs}
 use Rattle.clock_claims.proofs.closed_after.Statement.{statement}
 use Rattle.clock_claims.proofs.closed_after.Tie as tie
 use Rattle.clock_claims.proofs.closed_after.Reads as reads
 use Rattle.clock_claims.proofs.closed_after.Lts as lts
-use Rattle.clock.proofs.close_cycle.Reads as close-cycle-reads
+use Rattle.closing.proofs.close_cycle.Reads as close-cycle-reads
 use Rattle.clock_claims.proofs.played.Reads as played-reads
 use mir.Facts.{toZ-ofZ}
 use denote.Ref.{now}

@@ -1,3 +1,4 @@
+-- `control_of` meets its contract: one of four controls, the last of which is none.
 use Rattle.clock_claims.proofs.control_of.Statement.{statement}
 use Rattle.clock_claims.proofs.control_of.Tie as tie
 use Rattle.clock_claims.proofs.control_of.Reads as reads

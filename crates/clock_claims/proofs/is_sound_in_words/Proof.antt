@@ -1,3 +1,4 @@
+-- `is_sound_in_words` meets its contract: soundness is 01's sentence.
 use borrow.Author.Needs.{needs}
 use Rattle.clock_claims.proofs.is_sound_in_words.Statement.{statement}
 use Rattle.clock_claims.proofs.is_sound_in_words.Tie as tie

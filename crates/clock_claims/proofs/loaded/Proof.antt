@@ -1,3 +1,4 @@
+-- `loaded` meets its contract: what is claimed of loading, of what it returned.
 use borrow.Author.Needs.{needs}
 use Rattle.clock_claims.proofs.loaded.Statement.{statement}
 use Rattle.clock_claims.proofs.loaded.Tie as tie

@@ -1,9 +1,10 @@
+-- `measured` meets its contract: what is claimed of measuring, of what it returned.
 use borrow.Author.Needs.{needs}
 use Rattle.clock_claims.proofs.measured.Statement.{statement}
 use Rattle.clock_claims.proofs.measured.Tie as tie
 use Rattle.clock_claims.proofs.measured.Reads as reads
 use Rattle.clock_claims.proofs.measured.Lts as lts
-use Rattle.clock.proofs.measure.Reads as measure-reads
+use Rattle.measuring.proofs.measure.Reads as measure-reads
 use Rattle.numbers.proofs.Walk.{length-of-mapped}
 use Rattle.slot_claims.specs.Sheet.{TypedSettings}
 use Rattle.clock_claims.specs.Typed.{TypedList, TypedClock}

@@ -1,3 +1,4 @@
+-- `none_is_sound` meets its contract: the all-zero state is not sound.
 use borrow.Author.Needs.{needs}
 use Rattle.clock_claims.proofs.none_is_sound.Statement.{statement}
 use Rattle.clock_claims.proofs.none_is_sound.Tie as tie

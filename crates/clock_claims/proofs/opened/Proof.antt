@@ -1,3 +1,4 @@
+-- `opened` meets its contract: what is claimed of opening, of what it returned.
 use borrow.Author.Needs.{needs}
 use Rattle.clock_claims.proofs.opened.Statement.{statement}
 use Rattle.clock_claims.proofs.opened.Tie as tie

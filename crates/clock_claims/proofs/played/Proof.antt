@@ -1,3 +1,4 @@
+-- `played` meets its contract: the invariant is that the state so far is the one that the calls so far leave.
 use borrow.Author.Needs.{needs}
 use Rattle.clock_claims.proofs.played.Statement.{statement}
 use Rattle.clock_claims.proofs.played.Tie as tie

@@ -4,7 +4,7 @@ use Prim.Native.Nat.{ℕ}
 use lib.Dec.{eqb}
 use denote.Ref.{now}
 use Rattle.division.specs.Bits.{AreBytes}
-use Rattle.frame.specs.declared.header.Fields.{Fields}
+use Rattle.header.specs.declared.Fields.{Fields}
 use Rattle.frame.specs.Read.{told}
 use Rattle.frame.specs.Write.{WriteSays}
 use Rattle.frame_claims.specs.Exact.{fieldsOf, Rewritten}

@@ -8,9 +8,9 @@ use Rattle.slot_claims.proofs.happened.Statement.{statement}
 use Rattle.slot_claims.proofs.happened.Tie as tie
 use Rattle.slot_claims.proofs.happened.Reads as reads
 use Rattle.slot_claims.proofs.happened.Lts as lts
-use Rattle.slot.proofs.arrived.Reads as arrived-reads
-use Rattle.slot.proofs.boundary.Reads as boundary-reads
-use Rattle.slot.proofs.sent.Reads as sent-reads
+use Rattle.slot_events.proofs.arrived.Reads as arrived-reads
+use Rattle.slot_events.proofs.boundary.Reads as boundary-reads
+use Rattle.slot_events.proofs.sent.Reads as sent-reads
 
 boundary-requires : tie.Need-boundary-requires
 boundary-requires c κs = search needs

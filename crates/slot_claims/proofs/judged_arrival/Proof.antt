@@ -1,13 +1,13 @@
 -- What the statement of an event gives.
 use denote.Ref.{now}
-use Rattle.slot.specs.Judging.{arrival}
+use Rattle.slot_events.specs.Effect.{arrival}
 use Rattle.slot_claims.proofs.Witnesses.{judged-well}
 use borrow.Author.Needs.{needs}
 use Rattle.slot_claims.proofs.judged_arrival.Statement.{statement}
 use Rattle.slot_claims.proofs.judged_arrival.Tie as tie
 use Rattle.slot_claims.proofs.judged_arrival.Reads as reads
 use Rattle.slot_claims.proofs.judged_arrival.Lts as lts
-use Rattle.slot.proofs.arrived.Reads as arrived-reads
+use Rattle.slot_events.proofs.arrived.Reads as arrived-reads
 
 arrived-requires : tie.Need-arrived-requires
 arrived-requires c κs = search needs

@@ -1,12 +1,12 @@
 -- What the statement of an event gives.
-use Rattle.slot.specs.Judging.{boundaryActivity}
+use Rattle.slot_events.specs.Effect.{boundaryActivity}
 use Rattle.slot_claims.proofs.Witnesses.{judged-well}
 use borrow.Author.Needs.{needs}
 use Rattle.slot_claims.proofs.judged_boundary.Statement.{statement}
 use Rattle.slot_claims.proofs.judged_boundary.Tie as tie
 use Rattle.slot_claims.proofs.judged_boundary.Reads as reads
 use Rattle.slot_claims.proofs.judged_boundary.Lts as lts
-use Rattle.slot.proofs.boundary.Reads as boundary-reads
+use Rattle.slot_events.proofs.boundary.Reads as boundary-reads
 
 boundary-requires : tie.Need-boundary-requires
 boundary-requires c κs = search needs

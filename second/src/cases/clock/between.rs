@@ -4,7 +4,7 @@ use crate::clock_faults::{faulty_close, faulty_measure, faulty_open};
 use crate::clock_history::{put, show};
 use crate::clock_numbers::ClockNumbers;
 use crate::clock_scene::fair_clock;
-use crate::faults::{faulty_checksum, faulty_opening, faulty_read, faulty_write, wrong_value};
+use crate::faults::{faulty_bench, faulty_checksum, faulty_opening, faulty_read, faulty_write, wrong_value};
 use crate::history::{self, Happening};
 use crate::plan::{Expected, Plan};
 use crate::random::Random;
@@ -48,6 +48,7 @@ fn foreign_commands(random: &mut Random) -> Vec<Command> {
         each(&[Refusal::Channel]).iter().map(|faults| faulty_checksum(random, faults)).collect();
     all.extend(each(&READ_ORDER).iter().map(|faults| faulty_read(random, faults)));
     all.extend(each(&WRITE_ORDER).iter().map(|faults| faulty_write(random, faults)));
+    all.extend(each(&READ_ORDER).iter().map(|faults| faulty_bench(random, faults)));
     // Refused openings first, so that events find the status of all zeros.
     for faults in each(&OPEN_SLOT_ORDER).iter().rev() {
         all.push(Command::OpenSlot(faulty_opening(random, faults)));

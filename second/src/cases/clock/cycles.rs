@@ -2,13 +2,14 @@
 
 use crate::channel::Channel;
 use crate::clock::Times;
-use crate::clock_history::{close, load, measure, open, put, show_noted};
+use crate::clock_history::{close, load, measure, open, put, refuse, show_noted};
 use crate::clock_note::{ClockNote, Last};
 use crate::clock_numbers::{ClockNumbers, ListNumbers};
 use crate::clock_scene::{fair_clock, sync_status, wide_settings};
 use crate::frame::HIGHEST_CYCLE;
 use crate::plan::{Expected, Plan};
 use crate::random::Random;
+use crate::refusal::Refusal;
 use crate::script::Command;
 
 pub fn add(plan: &mut Plan, random: &mut Random) {
@@ -16,9 +17,19 @@ pub fn add(plan: &mut Plan, random: &mut Random) {
         add_opened(plan, random, cycle, Last::Before);
         add_opened(plan, random, cycle, OTHERS[usize::from(cycle / 2) % OTHERS.len()]);
     }
+    for cycle in [64, 65, 127, 128, 255] {
+        add_wrong(plan, random, cycle);
+    }
     for story in STORIES {
         add_story(plan, random, story);
     }
+}
+
+/// Refused whether the lowest bits alone would be a cycle or not, and the lists stay.
+fn add_wrong(plan: &mut Plan, random: &mut Random, cycle: u8) {
+    let held = ClockNumbers { open: false, ..fair_clock(random) };
+    put(plan, &held);
+    refuse(plan, &held, Command::OpenCycle(cycle), Refusal::Cycle, ClockNote::Refused('O', Refusal::Cycle));
 }
 
 /// In turn beside the cycle before, for odd and even cycles alike.
@@ -51,7 +62,7 @@ fn add_opened(plan: &mut Plan, random: &mut Random, cycle: u8, last: Last) {
 type Cycle = (u8, i64, &'static str);
 
 /// Runs of cycles from a load on; where the even cycle before is missing there is no rate.
-const STORIES: [&[Cycle]; 7] = [
+const STORIES: [&[Cycle]; 10] = [
     &[(0, 10, "close 0 10 0 0 0 0 0 1"), (1, 14, "close 0 14 4 0 0 0 0 1"), (2, 9, "close 0 9 4 0 0 0 0 1")],
     &[(1, 10, "close 0 10 0 0 1 0 0 1"), (3, 14, "close 0 14 0 0 1 0 0 1"), (5, 0, "close 0 0 0 0 1 0 0 1")],
     &[(4, 10, "close 0 10 0 0 0 0 0 1"), (7, 14, "close 0 14 0 0 1 0 0 1"), (5, 3, "close 0 3 0 0 1 0 0 1")],
@@ -59,6 +70,21 @@ const STORIES: [&[Cycle]; 7] = [
     &[(62, 1, "close 0 1 0 0 0 0 0 1"), (63, 8, "close 0 8 7 0 0 0 0 1"), (0, 2, "close 0 2 7 0 0 0 0 1")],
     &[(63, 1, "close 0 1 0 0 1 0 0 1"), (0, 8, "close 0 8 0 0 0 0 0 1"), (1, 2, "close 0 2 -6 0 0 0 0 1")],
     &[(6, 5, "close 0 5 0 0 0 0 0 1"), (8, 1, "close 0 1 0 0 0 0 0 1"), (7, 9, "close 0 9 0 0 1 0 0 1")],
+    // An even cycle behind an odd one before which none was closed, or another, or the same.
+    &[(9, 4, "close 0 4 0 0 1 0 0 1"), (10, 6, "close 0 6 0 0 0 0 0 1"), (11, 1, "close 0 1 -5 0 0 0 0 1")],
+    &[
+        (4, 10, "close 0 10 0 0 0 0 0 1"),
+        (7, 14, "close 0 14 0 0 1 0 0 1"),
+        (8, 2, "close 0 2 0 0 0 0 0 1"),
+        (9, 5, "close 0 5 3 0 0 0 0 1"),
+    ],
+    &[
+        (4, 10, "close 0 10 0 0 0 0 0 1"),
+        (5, 4, "close 0 4 -6 0 0 0 0 1"),
+        (5, 7, "close 0 7 -6 0 1 0 0 1"),
+        (6, 1, "close 0 1 -6 0 0 0 0 1"),
+        (7, 3, "close 0 3 -4 0 0 0 0 1"),
+    ],
 ];
 
 /// On both channels.

@@ -151,7 +151,7 @@ fn add_unsound_statuses(plan: &mut Plan, random: &mut Random) {
     }
 }
 
-pub const UNSOUND_STATUSES: u8 = 12;
+pub const UNSOUND_STATUSES: u8 = 17;
 
 fn unsound_status(random: &mut Random, sound: &StatusNumbers, change: u8) -> StatusNumbers {
     let mut changed = *sound;
@@ -167,7 +167,17 @@ fn unsound_status(random: &mut Random, sound: &StatusNumbers, change: u8) -> Sta
         8 => changed.marks |= 32,
         9 => changed.header.checksum ^= 1,
         10 => changed.header.words ^= 1,
-        _ => changed.header.cycle ^= 64,
+        11 => changed.header.cycle ^= 64,
+        12 => (changed.slot, changed.header.id) = (0, 0),
+        13 => (changed.slot, changed.header.id) = (2048, 2048),
+        14 => (changed.cycle, changed.header.cycle) = (64, 64),
+        15 => changed.header.flags = 0b10100,
+        // The slot is dynamic then, where no sync frame can be kept.
+        _ => changed.settings = sound.settings.with_field(STATIC_SLOTS, 44),
+    }
+    if (12..=15).contains(&change) {
+        // So that the number is wrong by itself.
+        changed.header = changed.header.with_right_checksum();
     }
     changed
 }

@@ -1,3 +1,4 @@
+-- `load` meets its contract: settings in range, or the first field that is not.
 use borrow.Author.Needs.{needs}
 use Rattle.clock.proofs.loading.load.Statement.{statement}
 use Rattle.clock.proofs.loading.load.Tie as tie

@@ -1,3 +1,4 @@
+-- `even_after` meets its contract: the even list, or an empty one.
 use borrow.Author.Needs.{needs}
 use Rattle.clock.proofs.opening.even_after.Statement.{statement}
 use Rattle.clock.proofs.opening.even_after.Tie as tie

@@ -1,3 +1,4 @@
+-- `keeps_even` meets its contract: an odd cycle has one before it, and that is asked for.
 use borrow.Author.Needs.{needs}
 use Rattle.clock.proofs.opening.keeps_even.Statement.{statement}
 use Rattle.clock.proofs.opening.keeps_even.Tie as tie
@@ -21,8 +22,8 @@ is-odd-requires c κs = search needs
 returns : tie.Need-returns
 returns c = rw (sym (c .before .is-odd .ensures) ∙ not-true (c .before .is-odd .result) (c .if1 .taken))
 
-sub-before : tie.Need-sub-before
-sub-before c =
+sub-t7 : tie.Need-sub-t7
+sub-t7 c =
     let n = c .before .before .before .args .cycle .0 in
     let odd : n % 2 ≡ 1 = eqb-true (n % 2) 1 (is-odd-cycle (c .before)) in
     omega arith
@@ -35,4 +36,4 @@ returns-2 c = rw (is-odd-cycle (c .before .before)) (c .is-cycle .ensures)
 
 pub keeps-even-spec : {M : Type 1} → statement M
 keeps-even-spec =
-    tie.close (tie.spec is-odd-requires returns sub-before is-cycle-requires returns-2)
+    tie.close (tie.spec is-odd-requires returns sub-t7 is-cycle-requires returns-2)

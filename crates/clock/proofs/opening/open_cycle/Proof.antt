@@ -1,3 +1,4 @@
+-- `open_cycle` meets its contract: the refusals in 01's order, each by an early return.
 use borrow.Author.Needs.{needs}
 use Rattle.clock.proofs.opening.open_cycle.Statement.{statement}
 use Rattle.clock.proofs.opening.open_cycle.Tie as tie
@@ -7,13 +8,13 @@ use Rattle.clock.proofs.opening.opened_on.Reads as opened-on-reads
 use Rattle.clock.proofs.opening.refused.Reads as refused-reads
 use Rattle.clock.proofs.sound.is_sound.Reads as is-sound-reads
 use Rattle.clock.proofs.state.CycleOrNone.is_there.Reads as is-there-reads
-use Rattle.frame.proofs.header.Cycle.is_too_high.Reads as is-too-high-reads
+use Rattle.header.proofs.Cycle.is_too_high.Reads as is-too-high-reads
 use mathlib.Core.Path.{_≡_, refl, sym, ap, subst, _∙_}
 use mathlib.Core.Bool.{true, false, not}
 use borrow.Author.Tests.{not-true, not-false}
 use Rattle.refusal.specs.Refusal.{first}
 use Rattle.refusal.proofs.FirstLaws.{first-skip, first-here, first-end}
-use Rattle.frame.specs.Refusals.{cycleTooHigh}
+use Rattle.header.specs.Refusals.{cycleTooHigh}
 use Rattle.clock.specs.declared.opening.CycleOpening.the-variants.{Opened, NotSound, CycleTooHigh, OpenAlready}
 use Rattle.clock.specs.State.{isThere}
 use Rattle.clock.specs.Sound.{sound}

@@ -1,3 +1,4 @@
+-- `opened_on` meets its contract: the state field by field.
 use borrow.Author.Needs.{needs}
 use Rattle.clock.proofs.opening.opened_on.Statement.{statement}
 use Rattle.clock.proofs.opening.opened_on.Tie as tie

@@ -1,9 +1,10 @@
+-- `cycle_sound` meets its contract: a cycle that is there is tried, and none is sound.
 use borrow.Author.Needs.{needs}
 use Rattle.clock.proofs.sound.cycle_sound.Statement.{statement}
 use Rattle.clock.proofs.sound.cycle_sound.Tie as tie
 use Rattle.clock.proofs.sound.cycle_sound.Reads as reads
 use Rattle.clock.proofs.sound.cycle_sound.Lts as lts
-use Rattle.frame.proofs.header.Cycle.is_too_high.Reads as is-too-high-reads
+use Rattle.header.proofs.Cycle.is_too_high.Reads as is-too-high-reads
 use mathlib.Core.Path.{sym, ap, _∙_}
 use mathlib.Core.Bool.{not}
 use Rattle.clock.specs.Sound.{cycleSound}

@@ -1,3 +1,4 @@
+-- `is_sound` meets its contract: the clauses in their order, each by an early return.
 use borrow.Author.Needs.{needs}
 use Rattle.clock.proofs.sound.is_sound.Statement.{statement}
 use Rattle.clock.proofs.sound.is_sound.Tie as tie

@@ -1,3 +1,4 @@
+-- `rate_sound` meets its contract: both ends of the limit, in 64 bits.
 use borrow.Author.Needs.{needs}
 use Rattle.clock.proofs.sound.rate_sound.Statement.{statement}
 use Rattle.clock.proofs.sound.rate_sound.Tie as tie

@@ -1,3 +1,4 @@
+-- `deviation` meets its contract: four parts subtracted in 64 bits, where none is cut.
 use borrow.Author.Needs.{needs}
 use Rattle.correction.proofs.arrival.deviation.Statement.{statement}
 use Rattle.correction.proofs.arrival.deviation.Tie as tie

@@ -1,3 +1,4 @@
+-- `external_term` meets its contract: the unit, its negative or nothing, which is the control times the unit.
 use borrow.Author.Needs.{needs}
 use Rattle.correction.proofs.external.external_term.Statement.{statement}
 use Rattle.correction.proofs.external.external_term.Tie as tie

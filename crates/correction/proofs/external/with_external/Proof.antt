@@ -1,3 +1,4 @@
+-- `with_external` meets its contract: the sum in 64 bits, brought back.
 use borrow.Author.Needs.{needs}
 use Rattle.correction.proofs.external.with_external.Statement.{statement}
 use Rattle.correction.proofs.external.with_external.Tie as tie

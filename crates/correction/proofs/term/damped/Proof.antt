@@ -1,3 +1,4 @@
+-- `damped` meets its contract: each test in 64 bits is the one of the rule, and what is brought toward zero fits.
 use borrow.Author.Needs.{needs}
 use Rattle.correction.proofs.term.damped.Statement.{statement}
 use Rattle.correction.proofs.term.damped.Tie as tie

@@ -1,3 +1,4 @@
+-- `limited` meets its contract: each test in 64 bits is the one of the rule, and a limit that is passed fits.
 use borrow.Author.Needs.{needs}
 use Rattle.correction.proofs.term.limited.Statement.{statement}
 use Rattle.correction.proofs.term.limited.Tie as tie

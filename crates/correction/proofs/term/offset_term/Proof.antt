@@ -1,3 +1,4 @@
+-- `offset_term` meets its contract: with values and without.
 use borrow.Author.Needs.{needs}
 use Rattle.correction.proofs.term.offset_term.Statement.{statement}
 use Rattle.correction.proofs.term.offset_term.Tie as tie

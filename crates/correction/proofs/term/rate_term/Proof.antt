@@ -1,3 +1,4 @@
+-- `rate_term` meets its contract: with values and without; the sum is what 32 bits hold of it.
 use borrow.Author.Needs.{needs}
 use Rattle.correction.proofs.term.rate_term.Statement.{statement}
 use Rattle.correction.proofs.term.rate_term.Tie as tie

@@ -1,3 +1,4 @@
+-- `difference` meets its contract: odd minus even where both are there, in 64 bits, brought back.
 use borrow.Author.Needs.{needs}
 use Rattle.correction.proofs.value.difference.Statement.{statement}
 use Rattle.correction.proofs.value.difference.Tie as tie

@@ -1,3 +1,4 @@
+-- `joined` meets its contract: two differences halved, one alone, or none.
 use borrow.Author.Needs.{needs}
 use Rattle.correction.proofs.value.joined.Statement.{statement}
 use Rattle.correction.proofs.value.joined.Tie as tie

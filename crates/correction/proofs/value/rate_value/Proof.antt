@@ -1,3 +1,4 @@
+-- `rate_value` meets its contract: the differences of both channels, joined.
 use borrow.Author.Needs.{needs}
 use Rattle.correction.proofs.value.rate_value.Statement.{statement}
 use Rattle.correction.proofs.value.rate_value.Tie as tie

@@ -1,3 +1,4 @@
+-- `smaller` meets its contract: the smaller of two by sign, the one that is there, or none.
 use borrow.Author.Needs.{needs}
 use Rattle.correction.proofs.value.smaller.Statement.{statement}
 use Rattle.correction.proofs.value.smaller.Tie as tie

@@ -15,20 +15,21 @@ use Rattle.refusal.specs.Refusal.{Line, _when_, first}
 use Rattle.division.specs.Bits.{bits, number, bytesBits}
 use Rattle.checksum.specs.declared.Channel.{Channel}
 use Rattle.checksum.specs.Checksums.{frameChecksum}
-use Rattle.frame.specs.declared.header.Header.{Header}
-use Rattle.frame.specs.Layout.{headerChecksumOf}
-use Rattle.frame.specs.Refusals.{tooShort, badSize, headerChecksumDiffers, wordsNotSize, idZero, startupWithoutSync, frameChecksumDiffers}
-use Rattle.frame.specs.Read.{headerIn, headerRead, trailerRead, rule}
-use Rattle.frame.proofs.HeaderLaws.{header-of-number}
+use Rattle.header.specs.declared.Header.{Header}
+use Rattle.header.specs.Layout.{headerChecksumOf, headerIn}
+use Rattle.header.specs.Refusals.{startupWithoutSync}
+use Rattle.frame.specs.Refusals.{tooShort, badSize, headerChecksumDiffers, wordsNotSize, idZero, frameChecksumDiffers}
+use Rattle.frame.specs.Read.{headerRead, trailerRead, rule}
+use Rattle.frame.proofs.ReadLaws.{header-of-number}
 use borrow.Author.Needs.{needs}
 use Rattle.frame.proofs.reader.read_on.Statement.{statement}
 use Rattle.frame.proofs.reader.read_on.Tie as tie
 use Rattle.frame.proofs.reader.read_on.Reads as reads
 use Rattle.frame.proofs.reader.read_on.Lts as lts
 use Rattle.checksum.proofs.frame_checksum_on.Reads as frame-checksum-on-reads
-use Rattle.frame.proofs.header.checksum_of.Reads as checksum-of-reads
-use Rattle.frame.proofs.header.startup_without_sync.Reads as startup-without-sync-reads
-use Rattle.frame.proofs.header.unpacked.Reads as unpacked-reads
+use Rattle.header.proofs.checksum_of.Reads as checksum-of-reads
+use Rattle.header.proofs.startup_without_sync.Reads as startup-without-sync-reads
+use Rattle.header.proofs.unpacked.Reads as unpacked-reads
 use Rattle.frame.proofs.reader.number_of.Reads as number-of-reads
 
 -- ---- what was read, seen from where it was read

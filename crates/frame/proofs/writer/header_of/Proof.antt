@@ -4,7 +4,7 @@ use Rattle.frame.proofs.writer.header_of.Statement.{statement}
 use Rattle.frame.proofs.writer.header_of.Tie as tie
 use Rattle.frame.proofs.writer.header_of.Reads as reads
 use Rattle.frame.proofs.writer.header_of.Lts as lts
-use Rattle.frame.proofs.header.Header.checksum_due.Reads as checksum-due-reads
+use Rattle.header.proofs.Header.checksum_due.Reads as checksum-due-reads
 
 checksum-due-requires : tie.Need-checksum-due-requires
 checksum-due-requires c κs = search needs

@@ -10,7 +10,7 @@ use borrow.Rule.Slice.PartMut.{putMid}
 use Rattle.division.specs.Bits.{bits, bytesOf}
 use Rattle.division.proofs.BytesLaws.{length-bytes-of}
 use Rattle.checksum.specs.Checksums.{frameChecksum}
-use Rattle.frame.specs.Layout.{wholeHeader}
+use Rattle.header.specs.Layout.{wholeHeader}
 use Rattle.frame.specs.Write.{headerOf, headerAndPayload, frameBytes, over}
 use Rattle.frame.proofs.OverLaws.{take-over, over-behind, lent-end}
 use Rattle.frame.proofs.WriteLaws.{length-start}
@@ -20,7 +20,7 @@ use Rattle.frame.proofs.writer.lay.Tie as tie
 use Rattle.frame.proofs.writer.lay.Reads as reads
 use Rattle.frame.proofs.writer.lay.Lts as lts
 use Rattle.checksum.proofs.frame_checksum_on.Reads as frame-checksum-on-reads
-use Rattle.frame.proofs.header.packed.Reads as packed-reads
+use Rattle.header.proofs.packed.Reads as packed-reads
 use Rattle.frame.proofs.writer.put_number.Reads as put-number-reads
 use Rattle.frame.proofs.writer.fill.Reads as fill-reads
 use Rattle.frame.proofs.writer.header_of.Reads as header-of-reads

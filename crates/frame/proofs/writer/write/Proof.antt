@@ -13,9 +13,10 @@ use Rattle.refusal.proofs.FirstLaws.{first-skip, first-here, first-end}
 use Rattle.checksum.specs.declared.Channel.{Channel}
 use Rattle.checksum.specs.Channel.{notAChannel, channelOf}
 use Rattle.checksum.proofs.ChannelLaws.{named-is, named-not}
+use Rattle.header.specs.Refusals.{notAnId, cycleTooHigh, startupWithoutSync}
 use Rattle.frame.specs.declared.writer.Writing.{Writing}
 use Rattle.frame.specs.declared.writer.Writing.the-variants.{NotAChannel, NotAnId, BadPayload, CycleTooHigh, StartupWithoutSync, ReservedSet, OutputTooShort}
-use Rattle.frame.specs.Refusals.{notAnId, badPayload, cycleTooHigh, startupWithoutSync, outputTooShort}
+use Rattle.frame.specs.Refusals.{badPayload, outputTooShort}
 use Rattle.frame.specs.Write.{frameBytes, over, told, refused, refusal, WriteSays}
 use Rattle.frame.proofs.WriteLaws.{write-refused, write-accepted, payload-at-most}
 use borrow.Author.Needs.{needs}
@@ -24,9 +25,9 @@ use Rattle.frame.proofs.writer.write.Tie as tie
 use Rattle.frame.proofs.writer.write.Reads as reads
 use Rattle.frame.proofs.writer.write.Lts as lts
 use Rattle.checksum.proofs.Channel.named.Reads as named-reads
-use Rattle.frame.proofs.header.Cycle.is_too_high.Reads as is-too-high-reads
-use Rattle.frame.proofs.header.Slot.is_not_an_id.Reads as is-not-an-id-reads
-use Rattle.frame.proofs.header.startup_without_sync.Reads as startup-without-sync-reads
+use Rattle.header.proofs.Cycle.is_too_high.Reads as is-too-high-reads
+use Rattle.header.proofs.Slot.is_not_an_id.Reads as is-not-an-id-reads
+use Rattle.header.proofs.startup_without_sync.Reads as startup-without-sync-reads
 use Rattle.frame.proofs.writer.is_bad.Reads as is-bad-reads
 use Rattle.frame.proofs.writer.lay.Reads as lay-reads
 

@@ -6,7 +6,7 @@ use Rattle.refusal.proofs.FirstLaws.{first-skip, first-here, first-end}
 use Rattle.checksum.specs.declared.Channel.{Channel}
 use Rattle.checksum.specs.Channel.{notAChannel, channelOf}
 use Rattle.checksum.proofs.ChannelLaws.{named-is, named-not}
-use Rattle.frame.specs.Refusals.{notAnId, cycleTooHigh}
+use Rattle.header.specs.Refusals.{notAnId, cycleTooHigh}
 use Rattle.settings.specs.Sheet.{firstOutOfRange, outOfRange}
 use Rattle.slot.specs.declared.opening.Opening.the-variants.{Opened, SettingOutOfRange, NotAChannel, NotASlot, CycleTooHigh}
 use Rattle.slot.specs.Judging.{fresh, noStatus}
@@ -19,8 +19,8 @@ use Rattle.slot.proofs.opening.open_slot.Tie as tie
 use Rattle.slot.proofs.opening.open_slot.Reads as reads
 use Rattle.slot.proofs.opening.open_slot.Lts as lts
 use Rattle.checksum.proofs.Channel.named.Reads as named-reads
-use Rattle.frame.proofs.header.Cycle.is_too_high.Reads as is-too-high-reads
-use Rattle.frame.proofs.header.Slot.is_not_an_id.Reads as is-not-an-id-reads
+use Rattle.header.proofs.Cycle.is_too_high.Reads as is-too-high-reads
+use Rattle.header.proofs.Slot.is_not_an_id.Reads as is-not-an-id-reads
 use Rattle.settings.proofs.Settings.first_out_of_range.Reads as first-out-of-range-reads
 use Rattle.slot.proofs.opening.refused.Reads as refused-reads
 use Rattle.slot.proofs.status.Status.fresh.Reads as fresh-reads

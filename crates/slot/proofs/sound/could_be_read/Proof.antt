@@ -3,19 +3,19 @@ use mathlib.Core.Path.{_≡_, sym, ap, _∙_}
 use mathlib.Core.Bool.{true, false}
 use borrow.Author.Tests.{lt-leb, le-leb}
 use lib.Dec.{eqb, leb}
-use Rattle.frame.specs.declared.header.Header.{Header}
-use Rattle.frame.specs.Layout.{mostWords, headerChecksumOf}
-use Rattle.frame.specs.Refusals.{notAnId, cycleTooHigh, startupWithoutSync}
+use Rattle.header.specs.declared.Header.{Header}
+use Rattle.header.specs.Layout.{mostWords, headerChecksumOf}
+use Rattle.header.specs.Refusals.{notAnId, cycleTooHigh, startupWithoutSync}
 use Rattle.slot.specs.Sound.{couldBeRead}
 use borrow.Author.Needs.{needs}
 use Rattle.slot.proofs.sound.could_be_read.Statement.{statement}
 use Rattle.slot.proofs.sound.could_be_read.Tie as tie
 use Rattle.slot.proofs.sound.could_be_read.Reads as reads
 use Rattle.slot.proofs.sound.could_be_read.Lts as lts
-use Rattle.frame.proofs.header.Cycle.is_too_high.Reads as is-too-high-reads
-use Rattle.frame.proofs.header.Header.checksum_due.Reads as checksum-due-reads
-use Rattle.frame.proofs.header.Slot.is_not_an_id.Reads as is-not-an-id-reads
-use Rattle.frame.proofs.startup_without_sync.Reads as startup-without-sync-reads
+use Rattle.header.proofs.Cycle.is_too_high.Reads as is-too-high-reads
+use Rattle.header.proofs.Header.checksum_due.Reads as checksum-due-reads
+use Rattle.header.proofs.Slot.is_not_an_id.Reads as is-not-an-id-reads
+use Rattle.header.proofs.startup_without_sync.Reads as startup-without-sync-reads
 
 an-id : (c : tie.Else1) → notAnId (c .before .before .args .header .id .0) ≡ false
 an-id c = sym (c .before .«is-not-an-id» .ensures) ∙ c .if1 .left

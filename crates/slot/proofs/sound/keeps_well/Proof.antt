@@ -2,7 +2,7 @@
 use mathlib.Core.Path.{_≡_, sym, ap, _∙_}
 use mathlib.Core.Bool.{true, false}
 use borrow.Author.Tests.{not-true, not-false}
-use Rattle.frame.specs.declared.header.Header.{Header}
+use Rattle.header.specs.declared.Header.{Header}
 use Rattle.slot.specs.Judging.{placeOf}
 use Rattle.slot.specs.Sound.{couldBeRead, keepsWell}
 use borrow.Author.Needs.{needs}

@@ -4,7 +4,7 @@ use mathlib.Core.Bool.{true, false, not}
 use Prim.Native.Nat.{ℕ}
 use lib.Dec.{eqb}
 use Rattle.refusal.proofs.FirstLaws.{first-skip, first-here, first-last}
-use Rattle.frame.specs.Refusals.{notAnId, cycleTooHigh}
+use Rattle.header.specs.Refusals.{notAnId, cycleTooHigh}
 use Rattle.settings.specs.Sheet.{outOfRange}
 use Rattle.settings.proofs.SheetLaws.{out-of-range, in-range}
 use Rattle.checksum.proofs.ChannelLaws.{is-a-channel}
@@ -13,8 +13,8 @@ use Rattle.slot.proofs.sound.would_open.Statement.{statement}
 use Rattle.slot.proofs.sound.would_open.Tie as tie
 use Rattle.slot.proofs.sound.would_open.Reads as reads
 use Rattle.slot.proofs.sound.would_open.Lts as lts
-use Rattle.frame.proofs.header.Cycle.is_too_high.Reads as is-too-high-reads
-use Rattle.frame.proofs.header.Slot.is_not_an_id.Reads as is-not-an-id-reads
+use Rattle.header.proofs.Cycle.is_too_high.Reads as is-too-high-reads
+use Rattle.header.proofs.Slot.is_not_an_id.Reads as is-not-an-id-reads
 use Rattle.settings.proofs.Settings.first_out_of_range.Reads as first-out-of-range-reads
 
 sheet-in-range : (c : tie.Else1) → outOfRange (c .before .before .args .status .settings) ≡ false

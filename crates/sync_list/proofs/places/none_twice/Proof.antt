@@ -1,3 +1,4 @@
+-- `none_twice` meets its contract: the invariant is that what the rows to come say is what all of them say.
 use Rattle.sync_list.proofs.places.none_twice.Statement.{statement}
 use Rattle.sync_list.proofs.places.none_twice.Tie as tie
 use Rattle.sync_list.proofs.places.none_twice.Reads as reads

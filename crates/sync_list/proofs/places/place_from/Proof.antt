@@ -1,3 +1,4 @@
+-- `place_from` meets its contract: the invariant is that the place is not among those passed.
 use Rattle.sync_list.proofs.places.place_from.Statement.{statement}
 use Rattle.sync_list.proofs.places.place_from.Tie as tie
 use Rattle.sync_list.proofs.places.place_from.Reads as reads

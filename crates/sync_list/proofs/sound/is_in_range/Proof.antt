@@ -1,3 +1,4 @@
+-- `is_in_range` meets its contract: a deviation in range, or none.
 use borrow.Author.Needs.{needs}
 use Rattle.sync_list.proofs.sound.is_in_range.Statement.{statement}
 use Rattle.sync_list.proofs.sound.is_in_range.Tie as tie

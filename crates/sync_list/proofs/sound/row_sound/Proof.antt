@@ -1,15 +1,16 @@
+-- `row_sound` meets its contract: the clauses of a row in their order.
 use borrow.Author.Needs.{needs}
 use Rattle.sync_list.proofs.sound.row_sound.Statement.{statement}
 use Rattle.sync_list.proofs.sound.row_sound.Tie as tie
 use Rattle.sync_list.proofs.sound.row_sound.Reads as reads
 use Rattle.sync_list.proofs.sound.row_sound.Lts as lts
-use Rattle.frame.proofs.header.Slot.is_not_an_id.Reads as is-not-an-id-reads
+use Rattle.header.proofs.Slot.is_not_an_id.Reads as is-not-an-id-reads
 use Rattle.sync_list.proofs.sound.is_in_range.Reads as is-in-range-reads
 use Rattle.sync_list.proofs.sound.is_measured_on_one.Reads as is-measured-on-one-reads
 use mathlib.Core.Path.{_≡_, sym, _∙_}
 use mathlib.Core.Bool.{true, false, _||_}
 use borrow.Author.Tests.{not-true, not-false}
-use Rattle.frame.specs.Refusals.{notAnId}
+use Rattle.header.specs.Refusals.{notAnId}
 use Rattle.sync_list.specs.Rows.{isMeasured}
 use Rattle.sync_list.specs.Sound.{isInRange}
 

@@ -1,3 +1,4 @@
+-- `rows_sound` meets its contract: the invariant is that what the rows to come say is what all of them say.
 use borrow.Author.Needs.{needs}
 use Rattle.sync_list.proofs.sound.rows_sound.Statement.{statement}
 use Rattle.sync_list.proofs.sound.rows_sound.Tie as tie

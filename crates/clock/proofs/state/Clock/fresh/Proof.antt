@@ -1,3 +1,4 @@
+-- `fresh` meets its contract: the state field by field.
 use borrow.Author.Needs.{needs}
 use Rattle.clock.proofs.state.Clock.fresh.Statement.{statement}
 use Rattle.clock.proofs.state.Clock.fresh.Tie as tie

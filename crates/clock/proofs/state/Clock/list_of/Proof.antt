@@ -1,3 +1,4 @@
+-- `list_of` meets its contract: the odd list of an odd cycle, and otherwise the even one.
 use borrow.Author.Needs.{needs}
 use Rattle.clock.proofs.state.Clock.list_of.Statement.{statement}
 use Rattle.clock.proofs.state.Clock.list_of.Tie as tie

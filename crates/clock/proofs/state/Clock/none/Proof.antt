@@ -1,3 +1,4 @@
+-- `none` meets its contract: fresh, of settings of zeros.
 use borrow.Author.Needs.{needs}
 use Rattle.clock.proofs.state.Clock.none.Statement.{statement}
 use Rattle.clock.proofs.state.Clock.none.Tie as tie

@@ -1,3 +1,4 @@
+-- `with_list` meets its contract: the odd list of an odd cycle is replaced, and otherwise the even one.
 use borrow.Author.Needs.{needs}
 use Rattle.clock.proofs.state.Clock.with_list.Statement.{statement}
 use Rattle.clock.proofs.state.Clock.with_list.Tie as tie

@@ -1,3 +1,4 @@
+-- `cycle` meets its contract: the cycle that is there, and 0 where none is.
 use borrow.Author.Needs.{needs}
 use Rattle.clock.proofs.state.CycleOrNone.cycle.Statement.{statement}
 use Rattle.clock.proofs.state.CycleOrNone.cycle.Tie as tie

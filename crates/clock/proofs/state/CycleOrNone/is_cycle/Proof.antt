@@ -1,3 +1,4 @@
+-- `is_cycle` meets its contract: a cycle that is there is compared, and none is no cycle.
 use borrow.Author.Needs.{needs}
 use Rattle.clock.proofs.state.CycleOrNone.is_cycle.Statement.{statement}
 use Rattle.clock.proofs.state.CycleOrNone.is_cycle.Tie as tie
@@ -16,7 +17,7 @@ returns : tie.Need-returns
 returns c = search needs
 
 returns-2 : tie.Need-returns-2
-returns-2 c = let s = c .before .before .before .before in sym (ap (isCycle (s .args .number)) (c .before .before .self .given .1))
+returns-2 c = let s = c .before .before .before .before .before in sym (ap (isCycle (s .args .sought .0)) (c .before .before .before .self .given .1))
 
 pub is-cycle-spec : {M : Type 1} → statement M
 is-cycle-spec = tie.close (tie.spec enum-known-self enum-told returns returns-2)

@@ -1,3 +1,4 @@
+-- `named` meets its contract: the three numbers that name a control, and no other.
 use Rattle.correction.proofs.external.Control.named.Statement.{statement}
 use Rattle.correction.proofs.external.Control.named.Tie as tie
 use Rattle.correction.proofs.external.Control.named.Reads as reads

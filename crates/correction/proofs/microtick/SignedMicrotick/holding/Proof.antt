@@ -1,3 +1,4 @@
+-- `holding` meets its contract: a number of 64 bits that fits 32 stays, and any other becomes 0.
 use Rattle.correction.proofs.microtick.SignedMicrotick.holding.Statement.{statement}
 use Rattle.correction.proofs.microtick.SignedMicrotick.holding.Tie as tie
 use Rattle.correction.proofs.microtick.SignedMicrotick.holding.Reads as reads

@@ -1,3 +1,4 @@
+-- `is_deviation` meets its contract: both ends of the range are tried.
 use borrow.Author.Needs.{needs}
 use Rattle.correction.proofs.microtick.SignedMicrotick.is_deviation.Statement.{statement}
 use Rattle.correction.proofs.microtick.SignedMicrotick.is_deviation.Tie as tie

@@ -1,3 +1,4 @@
+-- `has_none` meets its contract: no value, or a count without room for the own zero.
 use borrow.Author.Needs.{needs}
 use Rattle.correction.proofs.term.Values.has_none.Statement.{statement}
 use Rattle.correction.proofs.term.Values.has_none.Tie as tie

@@ -1,3 +1,4 @@
+-- `middle` meets its contract: the own zero stands behind the values, and is counted or not.
 use borrow.Author.Needs.{needs}
 use Rattle.correction.proofs.term.Values.middle.Statement.{statement}
 use Rattle.correction.proofs.term.Values.middle.Tie as tie

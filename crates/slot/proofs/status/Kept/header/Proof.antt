@@ -1,3 +1,4 @@
+-- `header` meets its contract: the header of the kept frame, and zeros where none is kept.
 use borrow.Author.Needs.{needs}
 use Rattle.slot.proofs.status.Kept.header.Statement.{statement}
 use Rattle.slot.proofs.status.Kept.header.Tie as tie

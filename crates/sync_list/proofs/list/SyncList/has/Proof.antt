@@ -1,3 +1,4 @@
+-- `has` meets its contract: the ID's row, asked on the channel.
 use borrow.Author.Needs.{needs}
 use Rattle.sync_list.proofs.list.SyncList.has.Statement.{statement}
 use Rattle.sync_list.proofs.list.SyncList.has.Tie as tie

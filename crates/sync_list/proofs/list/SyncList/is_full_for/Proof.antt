@@ -1,3 +1,4 @@
+-- `is_full_for` meets its contract: a new ID, and as many rows as the limit.
 use borrow.Author.Needs.{needs}
 use Rattle.sync_list.proofs.list.SyncList.is_full_for.Statement.{statement}
 use Rattle.sync_list.proofs.list.SyncList.is_full_for.Tie as tie

@@ -1,3 +1,4 @@
+-- `listed` meets its contract: the count, or fifteen where it is above.
 use Rattle.sync_list.proofs.list.SyncList.listed.Statement.{statement}
 use Rattle.sync_list.proofs.list.SyncList.listed.Tie as tie
 use Rattle.sync_list.proofs.list.SyncList.listed.Reads as reads

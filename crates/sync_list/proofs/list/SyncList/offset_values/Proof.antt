@@ -1,3 +1,4 @@
+-- `offset_values` meets its contract: the invariant is that the values so far, with those of the rows to come, are those of all rows.
 use borrow.Author.Needs.{needs}
 use Rattle.sync_list.proofs.list.SyncList.offset_values.Statement.{statement}
 use Rattle.sync_list.proofs.list.SyncList.offset_values.Tie as tie
@@ -6,30 +7,33 @@ use Rattle.sync_list.proofs.list.SyncList.offset_values.Lts as lts
 use Rattle.correction.proofs.offset_value.Reads as offset-value-reads
 use Rattle.sync_list.proofs.list.SyncList.listed.Reads as listed-reads
 use Rattle.sync_list.proofs.row.Row.deviations.Reads as deviations-reads
+use Rattle.sync_list.proofs.values.lay.Reads as lay-reads
 use Prim.Native.Nat.{_≤_, _<_, _-_, suc, ℕ}
-use mathlib.Core.Path.{_≡_, refl, sym, ap, _∙_}
+use mathlib.Core.Path.{_≡_, refl, ap, _∙_}
 use mathlib.Core.List.{[], _∷_}
 use native.Mathlib.Numerals.{add-one}
 use native.Mathlib.Omega.{arith}
-use lib.ListN.{length, getD, take, drop, length-set}
-use mir.Syntax.{w32}
-use mir.Val.{SFits}
-use mir.Facts.{toZ-ofZ}
-use Rattle.numbers.proofs.Walk.{rest, rest-end, came, length-of-mapped}
+use lib.ListN.{length, getD, take, drop}
+use Rattle.numbers.proofs.Walk.{rest, rest-end, length-of-mapped}
+use Rattle.correction.specs.declared.value.Value.{Value}
 use Rattle.correction.specs.Values.{offsetValue}
 use Rattle.sync_list.specs.declared.row.Row.{Row}
 use Rattle.sync_list.specs.Rows.{blank, deviationsOf}
 use Rattle.sync_list.specs.Lists.{rowCount, listed}
 use Rattle.sync_list.proofs.ListLaws.{listed-few, listed-rows}
-use Rattle.sync_list.proofs.ValueLaws.{Gathered, gather-none, gather-one, gather-end}
+use Rattle.sync_list.proofs.ValueLaws.{Gathered, gather-next, gather-end}
 use borrow.Author.Tests.{le-leb}
 use Rattle.correction.specs.Terms.{mostIds}
 use Rattle.sync_list.specs.Values.{offsetValues}
 
+-- what a row adds
+abbrev offsetOf : Row → Value
+offsetOf row = offsetValue (deviationsOf row)
+
 abbrev Inv-loop : tie.InvT-loop
 Inv-loop rows listed numbers₀ count₀ i₀ numbers count i =
     (listed ≤ rowCount) × (i ≤ listed) × (count ≤ i) × (length numbers ≡ 16)
-    × Gathered (λ (row : Row). offsetValue (deviationsOf row)) numbers count (take listed rows) (drop i (take listed rows))
+    × Gathered offsetOf numbers count (take listed rows) (drop i (take listed rows))
 
 abbrev μ-loop : tie.MeasureT-loop
 μ-loop rows listed numbers₀ count₀ i₀ numbers count i = listed - i
@@ -66,20 +70,8 @@ deviations-requires c κs = search needs
 offset-value-requires : tie.Need-offset-value-requires Inv-loop μ-loop
 offset-value-requires c κs = search needs
 
-enum-told : tie.Need-enum-told Inv-loop μ-loop
-enum-told c = search needs
-
-enum-known-value : tie.Need-enum-known-value Inv-loop μ-loop
-enum-known-value c = search needs
-
-mul-numbers : tie.Need-mul-numbers Inv-loop μ-loop
-mul-numbers c = omega arith
-
-array-set-from-numbers : tie.Need-array-set-from-numbers Inv-loop μ-loop
-array-set-from-numbers c = omega arith
-
-add-count : tie.Need-add-count Inv-loop μ-loop
-add-count c = omega arith
+lay-requires : tie.Need-lay-requires Inv-loop μ-loop
+lay-requires c κs = (omega arith, omega arith)
 
 add-i : tie.Need-add-i Inv-loop μ-loop
 add-i c = omega arith
@@ -89,48 +81,33 @@ loop-less c = omega arith
 
 loop-again : tie.Need-loop-again Inv-loop μ-loop
 loop-again c =
-    let l = c .before .before .before .before .before .loop in
-    let n = c .before .before .before .before .before .before .listed .result in
-    let rows = c .before .before .before .before .before .before .before .before .args .self .rows in
-    let t : l .i < n = c .before .before .before .before .loop-test .taken in
+    let k = c .before .before in
+    let l = k .before .before .before .before .loop in
+    let n = k .before .before .before .before .before .listed .result in
+    let rows = k .before .before .before .before .before .before .before .args .self .rows in
+    let t : l .i < n = k .before .before .before .loop-test .taken in
     let row = getD rows (l .i) (blank (record { 0 = 0 })) in
     let later = drop (suc (l .i)) (take n rows) in
-    let value : c .before .offset-value .result ≡ offsetValue (deviationsOf row) =
-    c .before .offset-value .ensures ∙ ap offsetValue (c .before .before .deviations .ensures) in
-    let g : Gathered (λ (row : Row). offsetValue (deviationsOf row)) (l .numbers) (l .count) (take n rows) (row ∷ later) =
-    rw (rest (blank (record { 0 = 0 })) rows (l .i) n t (in-rows (c .before .before .before .before .before .before))) at (l .inv .4) in
-    came (c .match .came)
-    (λ w. (
+    let value : k .offset-value .result ≡ offsetOf row = k .offset-value .ensures ∙ ap offsetValue (k .before .deviations .ensures) in
+    let g : Gathered offsetOf (l .numbers) (l .count) (take n rows) (row ∷ later) =
+    rw (rest (blank (record { 0 = 0 })) rows (l .i) n t (in-rows (k .before .before .before .before .before))) at (l .inv .4) in (
       l .inv .0,
       omega arith,
       omega arith,
-      rw (w .2) (l .inv .3),
-      rw (w .2, w .3, add-one)
-          (gather-none (λ (row : Row). offsetValue (deviationsOf row)) (l .numbers) (l .count) (take n rows) row later g
-          (sym value ∙ w .1 .given .1)),
-    ))
-    (λ w.
-    let f : SFits w32 (w .1 .given .0 .0 .0) = search needs in
-    let room : l .count < length (l .numbers) = omega arith in (
-      l .inv .0,
-      omega arith,
-      omega arith,
-      rw (w .4) (length-set (l .numbers) (l .count) _ ∙ l .inv .3),
-      rw (w .4, w .5, add-one, add-one, toZ-ofZ f)
-          (gather-one (λ (row : Row). offsetValue (deviationsOf row)) (l .numbers) (l .count) (take n rows) row later (w .1 .given .0 .0) room g
-          (sym value ∙ w .1 .given .1)),
-    ))
+      c .lay .ensures .1 .1,
+      rw add-one (gather-next offsetOf (l .numbers) (l .count) (take n rows) row later (c .lay .last .0) (c .lay .result) _ g value (c .lay .ensures .0)),
+    )
 
 returns : tie.Need-returns Inv-loop μ-loop
 returns c =
     let l = c .before .loop in
     let n = c .before .before .listed .result in
     let s = c .before .before .before .before .args .self in
-    let g : Gathered (λ (row : Row). offsetValue (deviationsOf row)) (l .numbers) (l .count) (take n (s .rows)) [] =
+    let g : Gathered offsetOf (l .numbers) (l .count) (take n (s .rows)) [] =
     rw (rest-end (s .rows) (l .i) n (c .loop-test .left) (in-rows (c .before .before))) at (l .inv .4) in
     let few-counted : l .count ≤ mostIds = omega arith in
     rw (le-leb (l .count) mostIds few-counted)
-    (gather-end (λ (row : Row). offsetValue (deviationsOf row)) (l .numbers) (l .count) (take n (s .rows)) g
+    (gather-end offsetOf (l .numbers) (l .count) (take n (s .rows)) g
     ∙ ap offsetValues (are-listed (c .before .before)))
 
 pub offset-values-spec : {M : Type 1} → statement M
@@ -145,11 +122,7 @@ offset-values-spec =
     array-copy-out-row
     deviations-requires
     offset-value-requires
-    enum-told
-    enum-known-value
-    mul-numbers
-    array-set-from-numbers
-    add-count
+    lay-requires
     add-i
     loop-less
     loop-again

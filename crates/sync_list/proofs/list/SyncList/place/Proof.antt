@@ -1,3 +1,4 @@
+-- `place` meets its contract: the place of the ID's row among the listed ones.
 use borrow.Author.Needs.{needs}
 use Rattle.sync_list.proofs.list.SyncList.place.Statement.{statement}
 use Rattle.sync_list.proofs.list.SyncList.place.Tie as tie

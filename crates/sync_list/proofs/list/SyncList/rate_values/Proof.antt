@@ -1,3 +1,4 @@
+-- `rate_values` meets its contract: the invariant is that the values so far, with those of the rows to come, are those of all rows.
 use borrow.Author.Needs.{needs}
 use Rattle.sync_list.proofs.list.SyncList.rate_values.Statement.{statement}
 use Rattle.sync_list.proofs.list.SyncList.rate_values.Tie as tie
@@ -9,16 +10,14 @@ use Rattle.sync_list.proofs.places.ids_of.Reads as ids-of-reads
 use Rattle.sync_list.proofs.places.place_from.Reads as place-from-reads
 use Rattle.sync_list.proofs.row.Row.blank.Reads as blank-reads
 use Rattle.sync_list.proofs.row.Row.deviations.Reads as deviations-reads
+use Rattle.sync_list.proofs.values.lay.Reads as lay-reads
 use Prim.Native.Nat.{ℕ, _≤_, _<_, _-_, suc}
 use mathlib.Core.Path.{_≡_, refl, sym, ap, _∙_}
 use mathlib.Core.List.{List, [], _∷_}
 use native.Mathlib.Numerals.{add-one}
 use native.Mathlib.Omega.{arith}
 use borrow.Author.Tests.{le-leb}
-use lib.ListN.{length, getD, take, drop, length-set, length-map}
-use mir.Syntax.{w32}
-use mir.Val.{SFits}
-use mir.Facts.{toZ-ofZ}
+use lib.ListN.{length, getD, take, drop, length-map}
 use Rattle.numbers.proofs.Walk.{rest, rest-end, came, length-of-mapped}
 use Rattle.correction.specs.declared.value.Value.{Value}
 use Rattle.correction.specs.Microtick.{held}
@@ -29,7 +28,7 @@ use Rattle.sync_list.specs.Rows.{blank, deviationsOf}
 use Rattle.sync_list.specs.Lists.{rowCount, listed, placeOf, rowIn, idOf}
 use Rattle.sync_list.specs.Values.{rateValuesBy}
 use Rattle.sync_list.proofs.ListLaws.{listed-few, listed-rows, ids-place, row-there, row-absent}
-use Rattle.sync_list.proofs.ValueLaws.{Gathered, gather-none, gather-one, gather-end}
+use Rattle.sync_list.proofs.ValueLaws.{Gathered, gather-next, gather-end}
 
 -- what a row adds, by the rows of the even cycle
 abbrev valueBy : List Row → Row → Value
@@ -142,20 +141,8 @@ deviations-requires-2 c κs = search needs
 rate-value-requires : tie.Need-rate-value-requires Inv-loop μ-loop
 rate-value-requires c κs = search needs
 
-enum-told : tie.Need-enum-told Inv-loop μ-loop
-enum-told c = search needs
-
-enum-known-value : tie.Need-enum-known-value Inv-loop μ-loop
-enum-known-value c = search needs
-
-mul-numbers : tie.Need-mul-numbers Inv-loop μ-loop
-mul-numbers c = omega arith
-
-array-set-from-numbers : tie.Need-array-set-from-numbers Inv-loop μ-loop
-array-set-from-numbers c = omega arith
-
-add-count : tie.Need-add-count Inv-loop μ-loop
-add-count c = omega arith
+lay-requires : tie.Need-lay-requires Inv-loop μ-loop
+lay-requires c κs = (omega arith, omega arith)
 
 add-i : tie.Need-add-i Inv-loop μ-loop
 add-i c = omega arith
@@ -165,7 +152,8 @@ loop-less c = omega arith
 
 loop-again : tie.Need-loop-again Inv-loop μ-loop
 loop-again c =
-    let j = c .before .before .before .before in
+    let v = c .before .before in
+    let j = v .before .before .before in
     let l = j .before .before .before .before .before .before .loop in
     let k = j .before .before .before .before .before .before .before in
     let n = k .before .before .before .listed .result in
@@ -174,30 +162,16 @@ loop-again c =
     let row = getD (a .self .rows) (l .i) (blank (record { 0 = 0 })) in
     let later = drop (suc (l .i)) (take n (a .self .rows)) in
     let evens = take (k .before .listed2 .result) (a .even .rows) in
-    let value : c .before .rate-value .result ≡ valueBy evens row =
-    rw (c .before .before .before .deviations .ensures, c .before .before .deviations2 .ensures, even-row-is j) at (c .before .rate-value .ensures) in
+    let value : v .rate-value .result ≡ valueBy evens row =
+    rw (v .before .before .deviations .ensures, v .before .deviations2 .ensures, even-row-is j) at (v .rate-value .ensures) in
     let g : Gathered (valueBy evens) (l .numbers) (l .count) (take n (a .self .rows)) (row ∷ later) =
-    rw (rest (blank (record { 0 = 0 })) (a .self .rows) (l .i) n t (in-rows (k .before .before .before))) at (l .inv .4) in
-    came (c .match .came)
-    (λ w. (
+    rw (rest (blank (record { 0 = 0 })) (a .self .rows) (l .i) n t (in-rows (k .before .before .before))) at (l .inv .4) in (
       l .inv .0,
       omega arith,
       omega arith,
-      rw (w .2) (l .inv .3),
-      rw (w .2, w .3, add-one)
-          (gather-none (valueBy evens) (l .numbers) (l .count) (take n (a .self .rows)) row later g (sym value ∙ w .1 .given .1)),
-    ))
-    (λ w.
-    let f : SFits w32 (w .1 .given .0 .0 .0) = search needs in
-    let room : l .count < length (l .numbers) = omega arith in (
-      l .inv .0,
-      omega arith,
-      omega arith,
-      rw (w .4) (length-set (l .numbers) (l .count) _ ∙ l .inv .3),
-      rw (w .4, w .5, add-one, add-one, toZ-ofZ f)
-          (gather-one (valueBy evens) (l .numbers) (l .count) (take n (a .self .rows)) row later (w .1 .given .0 .0) room g
-          (sym value ∙ w .1 .given .1)),
-    ))
+      c .lay .ensures .1 .1,
+      rw add-one (gather-next (valueBy evens) (l .numbers) (l .count) (take n (a .self .rows)) row later (c .lay .last .0) (c .lay .result) _ g value (c .lay .ensures .0)),
+    )
 
 returns : tie.Need-returns Inv-loop μ-loop
 returns c =
@@ -233,11 +207,7 @@ rate-values-spec =
     deviations-requires
     deviations-requires-2
     rate-value-requires
-    enum-told
-    enum-known-value
-    mul-numbers
-    array-set-from-numbers
-    add-count
+    lay-requires
     add-i
     loop-less
     loop-again

@@ -1,3 +1,4 @@
+-- `row_of` meets its contract: the ID's row, or a blank one with that ID.
 use borrow.Author.Needs.{needs}
 use Rattle.sync_list.proofs.list.SyncList.row_of.Statement.{statement}
 use Rattle.sync_list.proofs.list.SyncList.row_of.Tie as tie

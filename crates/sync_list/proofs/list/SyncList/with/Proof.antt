@@ -1,3 +1,4 @@
+-- `with` meets its contract: one row rewritten, and counted if it is new.
 use borrow.Author.Needs.{needs}
 use Rattle.sync_list.proofs.list.SyncList.with.Statement.{statement}
 use Rattle.sync_list.proofs.list.SyncList.with.Tie as tie

@@ -1,3 +1,4 @@
+-- `value` meets its contract: the deviation, or no value.
 use borrow.Author.Needs.{needs}
 use Rattle.sync_list.proofs.row.Measured.value.Statement.{statement}
 use Rattle.sync_list.proofs.row.Measured.value.Tie as tie

@@ -1,3 +1,4 @@
+-- `deviations` meets its contract: the values of both channels.
 use borrow.Author.Needs.{needs}
 use Rattle.sync_list.proofs.row.Row.deviations.Statement.{statement}
 use Rattle.sync_list.proofs.row.Row.deviations.Tie as tie

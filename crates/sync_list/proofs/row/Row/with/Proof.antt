@@ -1,3 +1,4 @@
+-- `with` meets its contract: one channel is set, and the other stays.
 use borrow.Author.Needs.{needs}
 use Rattle.sync_list.proofs.row.Row.with.Statement.{statement}
 use Rattle.sync_list.proofs.row.Row.with.Tie as tie

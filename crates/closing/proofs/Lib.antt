@@ -1,0 +1,3 @@
+pub mod StatementLaws
+pub mod AnswerLaws
+pub mod RangeLaws

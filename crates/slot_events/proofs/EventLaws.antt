@@ -1,0 +1,141 @@
+-- An event, by what was found of it.
+use Prim.Native.Nat.{ℕ}
+use mathlib.Core.Path.{_≡_, refl, sym, ap, _∙_}
+use mathlib.Core.Bool.{true, false, not}
+use mathlib.Core.List.{List, [], _∷_}
+use native.Mathlib.Omega.{arith}
+use borrow.Author.Tests.{eq-eqb, ne-eqb}
+use denote.Enum.Declared.{tagOf}
+use types.Run.{OneOf, miss}
+use Rattle.refusal.specs.Refusal.{first, ifAccepted}
+use Rattle.refusal.proofs.FirstLaws.{first-skip, first-here, first-end, if-accepted}
+use Rattle.checksum.specs.declared.Channel.{Channel}
+use Rattle.header.specs.declared.Header.{Header}
+use Rattle.header.specs.Layout.{noHeader}
+use Rattle.frame.proofs.reader.Reading.{the-type}
+use Rattle.frame.specs.declared.reader.Reading.{Reading}
+use Rattle.frame.specs.declared.reader.Reading.the-variants as reading
+use Rattle.frame.specs.Read.{headerRead, refusalsOn, ReadOnSays}
+use Rattle.frame.specs.Read as read
+use Rattle.slot.specs.declared.status.Reason.{Reason}
+use Rattle.slot.specs.declared.status.Reason.the-variants as reason
+use Rattle.slot.specs.declared.status.Kept.{Kept}
+use Rattle.slot.specs.declared.status.Kept.the-variants as kept
+use Rattle.slot.specs.declared.status.Status.{Status}
+use Rattle.slot.specs.Judging.{Place, firstMiss, firstReason, firstKept}
+use Rattle.slot.specs.Sound.{sound}
+use Rattle.slot_events.specs.declared.Recording.the-variants as recording
+use Rattle.slot_events.specs.Effect.{Event, arrival, keptBy, ofArrival, isRefused, brings, after, boundaryActivity, joined}
+use Rattle.slot_events.specs.Events.{eventRefusals, EventSays}
+
+-- ---- no reason, no frame
+
+pub first-reason-none : (r : Reason) → firstReason r reason.NoReason ≡ r
+first-reason-none reason.NoReason = refl
+first-reason-none reason.OtherId = refl
+first-reason-none reason.OtherCycle = refl
+first-reason-none reason.OtherWords = refl
+first-reason-none reason.SyncOrStartup = refl
+first-reason-none reason.NullFrame = refl
+
+pub first-kept-none : (k : Kept) → firstKept k kept.Nothing ≡ k
+first-kept-none kept.Nothing = refl
+first-kept-none (kept.Frame h) = refl
+
+-- ---- the reader's answer
+
+-- any case but the first is a refusal
+pub not-accepted : (r : Reading) → OneOf (1 ∷ 2 ∷ 3 ∷ 4 ∷ 5 ∷ 6 ∷ 7 ∷ 8 ∷ []) (tagOf the-type r) → read.told r .number ≡ 0 → ⊥
+not-accepted (reading.Accepted h) k e = miss (1 ∷ 2 ∷ 3 ∷ 4 ∷ 5 ∷ 6 ∷ 7 ∷ 8 ∷ []) 0 tt k
+not-accepted reading.NotAChannel k e = omega arith
+not-accepted reading.TooShort k e = omega arith
+not-accepted reading.BadSize k e = omega arith
+not-accepted reading.HeaderChecksumDiffers k e = omega arith
+not-accepted reading.WordsNotSize k e = omega arith
+not-accepted reading.IdZero k e = omega arith
+not-accepted reading.StartupWithoutSync k e = omega arith
+not-accepted reading.FrameChecksumDiffers k e = omega arith
+
+pub brings-refused : (p : Place) (bytes : List ℕ) → isRefused (p .channel) bytes ≡ true
+    → brings p (arrival bytes) ≡ ofArrival true reason.NoReason kept.Nothing
+brings-refused p bytes out = rw out
+
+pub brings-refusal : (p : Place) (bytes : List ℕ) (r : Reading) → ReadOnSays (p .channel) bytes r → (read.told r .number ≡ 0 → ⊥)
+    → brings p (arrival bytes) ≡ ofArrival true reason.NoReason kept.Nothing
+brings-refusal p bytes r says refused =
+    brings-refused p bytes
+    (ap not
+    (ne-eqb (first (refusalsOn (p .channel) bytes)) 0 (λ e. refused (ap (λ (t : read.Told). t .number) says ∙ e))))
+
+-- an accepted answer: nothing is refused, and the header is the one that was read
+pub accepted-none : (channel : Channel) (bytes : List ℕ) (h : Header) → ReadOnSays channel bytes (reading.Accepted h)
+    → (first (refusalsOn channel bytes) ≡ 0) × (headerRead bytes ≡ h)
+accepted-none channel bytes h says =
+    let none : first (refusalsOn channel bytes) ≡ 0 = sym (ap (λ (t : read.Told). t .number) says) in (
+      none,
+      sym (ap (λ (t : read.Told). t .header) says ∙ if-accepted (first (refusalsOn channel bytes)) (headerRead bytes) noHeader none),
+    )
+
+pub brings-frame : (p : Place) (bytes : List ℕ) (h : Header) → ReadOnSays (p .channel) bytes (reading.Accepted h)
+    → brings p (arrival bytes) ≡ ofArrival false (firstMiss p h) (keptBy (firstMiss p h) h)
+brings-frame p bytes h says =
+    let a = accepted-none (p .channel) bytes h says in
+    let accepted : isRefused (p .channel) bytes ≡ false = ap not (eq-eqb (first (refusalsOn (p .channel) bytes)) 0 (a .0)) in
+    rw (accepted, a .1)
+
+-- ---- one flag set
+
+abbrev withBoundary : Status → Status
+withBoundary s =
+    record {
+      settings = s .settings;
+      channel = s .channel;
+      slot = s .slot;
+      cycle = s .cycle;
+      «syntax_error» = s .«syntax_error»;
+      «content_error» = s .«content_error»;
+      «boundary_violation» = true;
+      conflict = s .conflict;
+      valid = s .valid;
+      «own_sending» = s .«own_sending»;
+      reason = s .reason;
+      kept = s .kept;
+    }
+
+pub after-boundary : (s : Status) → withBoundary s ≡ after s boundaryActivity
+after-boundary s = rw (first-reason-none (s .reason), first-kept-none (s .kept))
+
+abbrev withSyntax : Status → Status
+withSyntax s =
+    record {
+      settings = s .settings;
+      channel = s .channel;
+      slot = s .slot;
+      cycle = s .cycle;
+      «syntax_error» = true;
+      «content_error» = s .«content_error»;
+      «boundary_violation» = s .«boundary_violation»;
+      conflict = s .conflict;
+      valid = s .valid;
+      «own_sending» = s .«own_sending»;
+      reason = s .reason;
+      kept = s .kept;
+    }
+
+-- an arrival that is refused leaves what one without a reason and a frame leaves, and the syntax error
+pub after-refusal : (s t : Status) → t ≡ joined s (ofArrival false reason.NoReason kept.Nothing)
+    → withSyntax t ≡ joined s (ofArrival true reason.NoReason kept.Nothing)
+after-refusal s t same = ap withSyntax same
+
+-- ---- the statement
+
+pub event-refused : (s : Status) (e : Event) → sound s ≡ false → EventSays s e (record { answer = recording.NotSound; status = s })
+event-refused s e h =
+    let n : first (eventRefusals s) ≡ 23 = first-here 23 _ (ap not h) in
+    record { answers = sym n; leaves = sym (ap (λ (k : ℕ). ifAccepted k (after s e) s) n) }
+
+pub event-recorded : (s : Status) (e : Event) (t : Status) → sound s ≡ true → t ≡ after s e
+    → EventSays s e (record { answer = recording.Recorded; status = t })
+event-recorded s e t h same =
+    let n : first (eventRefusals s) ≡ 0 = first-skip 23 _ (ap not h) ∙ first-end in
+    record { answers = sym n; leaves = same ∙ sym (ap (λ (k : ℕ). ifAccepted k (after s e) s) n) }

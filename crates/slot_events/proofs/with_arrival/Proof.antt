@@ -1,0 +1,76 @@
+-- Each field is what an arrival leaves of it.
+use mathlib.Core.Path.{_≡_, ap, _∙_}
+use mathlib.Core.Bool.{Bool, _||_}
+use Rattle.slot.specs.Judging.{isReason, isFrame, firstReason, firstKept}
+use borrow.Author.Needs.{needs}
+use Rattle.slot_events.proofs.with_arrival.Statement.{statement}
+use Rattle.slot_events.proofs.with_arrival.Tie as tie
+use Rattle.slot_events.proofs.with_arrival.Reads as reads
+use Rattle.slot_events.proofs.with_arrival.Lts as lts
+use Rattle.slot.proofs.status.Kept.is_frame.Reads as is-frame-reads
+use Rattle.slot.proofs.status.Kept.or_later.Reads as status-Kept-or-later-reads
+use Rattle.slot.proofs.status.Reason.is_reason.Reads as is-reason-reads
+use Rattle.slot.proofs.status.Reason.or_later.Reads as status-Reason-or-later-reads
+use Rattle.slot_events.proofs.either.Reads as either-reads
+
+is-reason-requires : tie.Need-is-reason-requires
+is-reason-requires c κs = search needs
+
+is-frame-requires : tie.Need-is-frame-requires
+is-frame-requires c κs = search needs
+
+either-requires : tie.Need-either-requires
+either-requires c κs = search needs
+
+either-requires-2 : tie.Need-either-requires-2
+either-requires-2 c κs = search needs
+
+either-requires-3 : tie.Need-either-requires-3
+either-requires-3 c κs = search needs
+
+or-later-requires : tie.Need-or-later-requires
+or-later-requires c κs = search needs
+
+or-later-requires-2 : tie.Need-or-later-requires-2
+or-later-requires-2 c κs = search needs
+
+returns : tie.Need-returns
+returns c =
+    let e = c .before .before .before .before in
+    let a = e .before .before .before .before .before .before .args in
+    let s = a .status in
+    let content : e .either .result ≡ isReason (a .reason) || s .«content_error» =
+    e .either .ensures ∙ ap (λ (x : Bool). x || s .«content_error») (e .before .before .«is-reason» .ensures) in
+    let conflict : c .before .before .before .either2 .result ≡ s .«own_sending» || s .conflict = c .before .before .before .either2 .ensures in
+    let valid : c .before .before .either3 .result ≡ isFrame (a .kept) || s .valid =
+    c .before .before .either3 .ensures ∙ ap (λ (x : Bool). x || s .valid) (e .before .«is-frame» .ensures) in
+    let reason : c .before .«or-later» .result ≡ firstReason (s .reason) (a .reason) = c .before .«or-later» .ensures in
+    let kept : c .«or-later2» .result ≡ firstKept (s .kept) (a .kept) = c .«or-later2» .ensures in
+    λ i.
+    record {
+      settings = s .settings;
+      channel = s .channel;
+      slot = s .slot;
+      cycle = s .cycle;
+      «syntax_error» = s .«syntax_error»;
+      «content_error» = content i;
+      «boundary_violation» = s .«boundary_violation»;
+      conflict = conflict i;
+      valid = valid i;
+      «own_sending» = s .«own_sending»;
+      reason = reason i;
+      kept = kept i;
+    }
+
+pub with-arrival-spec : {M : Type 1} → statement M
+with-arrival-spec =
+    tie.close
+    (tie.spec
+    is-reason-requires
+    is-frame-requires
+    either-requires
+    either-requires-2
+    either-requires-3
+    or-later-requires
+    or-later-requires-2
+    returns)

@@ -1,0 +1,87 @@
+-- What one event brings in a slot, and what it leaves of a status (01, "Judging a slot").
+use Prim.Native.Nat.{ℕ}
+use mathlib.Core.Bool.{Bool, true, false, not, _&&_, _||_, cond}
+use mathlib.Core.List.{List}
+use lib.Dec.{eqb}
+use Rattle.refusal.specs.Refusal.{first}
+use Rattle.checksum.specs.declared.Channel.{Channel}
+use Rattle.header.specs.declared.Header.{Header}
+use Rattle.frame.specs.Read.{headerRead, refusalsOn}
+use Rattle.slot.specs.declared.status.Reason.{Reason}
+use Rattle.slot.specs.declared.status.Reason.the-variants.{NoReason}
+use Rattle.slot.specs.declared.status.Kept.{Kept}
+use Rattle.slot.specs.declared.status.Kept.the-variants.{Nothing, Frame}
+use Rattle.slot.specs.declared.status.Status.{Status}
+use Rattle.slot.specs.Judging.{Place, placeOf, firstMiss, isReason, isFrame, firstReason, firstKept, hasArrival}
+
+-- ---- an event
+
+-- "arrived bytes, activity at a slot boundary, own sending".
+pub data Event : Type 0 where
+  arrival : List ℕ → Event
+  boundaryActivity : Event
+  ownSending : Event
+
+-- What an event brings.
+pub record Brought : Type 0 where
+  -- Bytes arrived.
+  pub arrived : Bool
+  -- Reading them on the slot's channel refuses them.
+  pub refused : Bool
+  -- The first test that the frame misses, and the header of one that misses none.
+  pub reason : Reason
+  pub kept : Kept
+  -- Activity at a boundary.
+  pub atBoundary : Bool
+  -- Own sending.
+  pub sent : Bool
+
+-- What an arrival brings: whether it is refused, and a reason or a frame to keep.
+abbrev pub ofArrival : Bool → Reason → Kept → Brought
+ofArrival refused reason kept =
+    record { arrived = true; refused = refused; reason = reason; kept = kept; atBoundary = false; sent = false }
+
+-- "Each arrival is read on the slot's channel": a read refusal.
+abbrev pub isRefused : Channel → List ℕ → Bool
+isRefused channel bytes = not (eqb (first (refusalsOn channel bytes)) 0)
+
+-- "No miss: .. header fields are kept".
+abbrev pub keptBy : Reason → Header → Kept
+keptBy reason h = cond (isReason reason) Nothing (Frame h)
+
+-- What an event brings in a slot that was opened so.
+abbrev pub brings : Place → Event → Brought
+brings p (arrival bytes) =
+    cond (isRefused (p .channel) bytes) (ofArrival true NoReason Nothing)
+    (ofArrival false (firstMiss p (headerRead bytes)) (keptBy (firstMiss p (headerRead bytes)) (headerRead bytes)))
+brings p boundaryActivity = record { arrived = false; refused = false; reason = NoReason; kept = Nothing; atBoundary = true; sent = false }
+brings p ownSending = record { arrived = false; refused = false; reason = NoReason; kept = Nothing; atBoundary = false; sent = true }
+
+-- ---- what it leaves
+
+-- "Flags never clear within a slot": each stands if the event sets it or if it stood before.
+abbrev pub joined : Status → Brought → Status
+joined s b =
+    record {
+      settings = s .settings;
+      channel = s .channel;
+      slot = s .slot;
+      cycle = s .cycle;
+      -- "A read refusal sets "syntax error"."
+      «syntax_error» = b .refused || s .«syntax_error»;
+      -- "A miss sets "content error"".
+      «content_error» = isReason (b .reason) || s .«content_error»;
+      -- "Boundary activity sets "boundary violation"."
+      «boundary_violation» = b .atBoundary || s .«boundary_violation»;
+      -- ""Conflict" is set once own sending and any arrival have both occurred, in either order."
+      conflict = b .arrived && s .«own_sending» || (b .sent && hasArrival s || s .conflict);
+      -- "No miss: .. "valid" set".
+      valid = isFrame (b .kept) || s .valid;
+      «own_sending» = b .sent || s .«own_sending»;
+      reason = firstReason (s .reason) (b .reason);
+      kept = firstKept (s .kept) (b .kept);
+    }
+
+-- The status after an event.
+abbrev pub after : Status → Event → Status
+after s e = joined s (brings (placeOf s) e)

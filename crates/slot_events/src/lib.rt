@@ -1,0 +1,149 @@
+// What happens in a slot (document 01, "Judging a slot"): bytes arrive, there is activity at its boundary, this node sends.
+//
+// Entries: `arrived` on a status and bytes, `boundary` and `sent` on a status. Each takes whatever comes and gives an answer and
+// a status.
+ghost use mathlib.Core.Path.{_≡_};
+ghost use mathlib.Core.Bool.{false, _||_};
+ghost use Rattle.slot_events.specs.declared.Recording.the-variants.{Recorded, NotSound};
+ghost use Rattle.slot_events.specs.Effect.{arrival, boundaryActivity, ownSending, keptBy, ofArrival, joined};
+ghost use Rattle.slot_events.specs.Events.{told, EventSays};
+use frame::Reading;
+use header::Header;
+use slot::Kept;
+use slot::Reason;
+use slot::Status;
+
+// What an event answers: that it is recorded, or that the status is not sound.
+pub enum Recording {
+    Recorded,
+    NotSound,
+}
+
+impl Recording {
+    // 01's number: 0, or that of the refusal.
+    pub fn number(self) -> u8
+        ensures { λ r. ⌜ r ≡ told self ⌝ }
+    {
+        match self {
+            Recording::Recorded => 0,
+            Recording::NotSound => 23,
+        }
+    }
+}
+
+pub struct Judged {
+    pub answer: Recording,
+    pub status: Status,
+}
+
+// Bytes arrived, any number of them.
+pub fn arrived(status: Status, bytes: &[u8]) -> Judged
+    ensures { λ r. ⌜ EventSays status (arrival (now (bytes .entry))) r ⌝ }
+{
+    if !slot::is_sound(status) {
+        return not_sound(status);
+    }
+    let channel = status.channel;
+    let reading = frame::read_on(channel, bytes);
+    let Reading::Accepted(header) = reading else {
+        let mut next = with_arrival(status, Reason::NoReason, Kept::Nothing);
+        next.syntax_error = true;
+        return recorded(next);
+    };
+    let reason = slot::first_miss(status, header);
+    let kept = kept_by(reason, header);
+    recorded(with_arrival(status, reason, kept))
+}
+
+// Activity at a boundary of the slot.
+pub fn boundary(status: Status) -> Judged
+    ensures { λ r. ⌜ EventSays status boundaryActivity r ⌝ }
+{
+    if !slot::is_sound(status) {
+        return not_sound(status);
+    }
+    let mut next = status;
+    next.boundary_violation = true;
+    recorded(next)
+}
+
+// This node sent in the slot.
+pub fn sent(status: Status) -> Judged
+    ensures { λ r. ⌜ EventSays status ownSending r ⌝ }
+{
+    if !slot::is_sound(status) {
+        return not_sound(status);
+    }
+    let has_arrival = status.has_arrival();
+    let mut next = status;
+    next.own_sending = true;
+    next.conflict = either(has_arrival, status.conflict);
+    recorded(next)
+}
+
+fn recorded(status: Status) -> Judged
+    ensures { λ r. ⌜ r ≡ record { answer = Recorded; status = status } ⌝ }
+{
+    Judged {
+        answer: Recording::Recorded,
+        status,
+    }
+}
+
+fn not_sound(handed_in: Status) -> Judged
+    ensures { λ r. ⌜ r ≡ record { answer = NotSound; status = handed_in } ⌝ }
+{
+    Judged {
+        answer: Recording::NotSound,
+        status: handed_in,
+    }
+}
+
+// The frame to keep: one that missed no test.
+fn kept_by(reason: Reason, header: Header) -> Kept
+    ensures { λ r. ⌜ r ≡ keptBy reason header ⌝ }
+{
+    if reason.is_reason() {
+        return Kept::Nothing;
+    }
+    Kept::Frame(header)
+}
+
+// The status after an arrival, by the first test that it misses and by the frame to keep. Of an arrival that is refused only the
+// syntax error is still to be set.
+fn with_arrival(status: Status, reason: Reason, kept: Kept) -> Status
+    ensures { λ r. ⌜ r ≡ joined status (ofArrival false reason kept) ⌝ }
+{
+    let settings = status.settings;
+    let channel = status.channel;
+    let slot = status.slot;
+    let cycle = status.cycle;
+    let first_reason = status.reason;
+    let first_kept = status.kept;
+    let is_missed = reason.is_reason();
+    let is_passed = kept.is_frame();
+    Status {
+        settings,
+        channel,
+        slot,
+        cycle,
+        syntax_error: status.syntax_error,
+        content_error: either(is_missed, status.content_error),
+        boundary_violation: status.boundary_violation,
+        conflict: either(status.own_sending, status.conflict),
+        valid: either(is_passed, status.valid),
+        own_sending: status.own_sending,
+        reason: first_reason.or_later(reason),
+        kept: first_kept.or_later(kept),
+    }
+}
+
+// Flags joined. (The prover follows an early return more easily than `||`.)
+fn either(a: bool, b: bool) -> bool
+    ensures { λ r. ⌜ r ≡ a || b ⌝ }
+{
+    if a {
+        return true;
+    }
+    b
+}

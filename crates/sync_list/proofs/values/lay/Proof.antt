@@ -1,0 +1,60 @@
+-- `lay` meets its contract: the value stands behind the numbers, or there is none.
+use borrow.Author.Needs.{needs}
+use Rattle.sync_list.proofs.values.lay.Statement.{statement}
+use Rattle.sync_list.proofs.values.lay.Tie as tie
+use Rattle.sync_list.proofs.values.lay.Reads as reads
+use Rattle.sync_list.proofs.values.lay.Lts as lts
+use Prim.Native.Nat.{_<_}
+use mathlib.Core.Path.{sym, _∙_}
+use mathlib.Core.List.{append-nil}
+use native.Mathlib.Numerals.{add-one}
+use native.Mathlib.Omega.{arith}
+use lib.ListN.{length, take, length-set}
+use lib.Seq.{take-suc-set}
+use mir.Syntax.{w32}
+use mir.Val.{SFits}
+use mir.Facts.{toZ-ofZ}
+
+enum-known-value : tie.Need-enum-known-value
+enum-known-value c = search needs
+
+enum-told : tie.Need-enum-told
+enum-told c = search needs
+
+returns : tie.Need-returns
+returns c =
+    let s = c .before .before in
+    (rw (c .enum-told .given .1) (sym (append-nil (take (s .args .count) (s .args .numbers .now)))), (omega arith, s .pre .1))
+
+mul-number : tie.Need-mul-number
+mul-number c = search needs
+
+element-set-from-number : tie.Need-element-set-from-number
+element-set-from-number c = search needs
+
+add-result : tie.Need-add-result
+add-result c = search needs
+
+returns-2 : tie.Need-returns-2
+returns-2 c =
+    let s = c .before .before .before .before in
+    let numbers = s .args .numbers .now in
+    let count = s .args .count in
+    let x = c .before .before .value .given in
+    let f : SFits w32 (x .0 .0 .0) = search needs in
+    let room : count < length numbers = omega arith in (
+      rw (x .1, toZ-ofZ f, add-one) (take-suc-set numbers count (x .0 .0 .0) room),
+      (omega arith, length-set numbers count _ ∙ s .pre .1),
+    )
+
+pub lay-spec : {M : Type 1} → statement M
+lay-spec =
+    tie.close
+    (tie.spec
+    enum-known-value
+    enum-told
+    returns
+    mul-number
+    element-set-from-number
+    add-result
+    returns-2)

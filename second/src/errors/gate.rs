@@ -1,0 +1,55 @@
+//! One script for each kind of script error, played beside the listed cases: good commands, the error, a good command.
+
+use super::{bytes_of, changed, Small, FRAME, OPENING, REASON, SENDS_SYNC, SETTINGS, STATUS};
+use crate::script::{Cause, Command, Write, LIMIT};
+
+/// Played before the error.
+fn before() -> Vec<u8> {
+    let commands = [
+        Command::checksum(0, b"123456789"),
+        Command::bench(0, &FRAME),
+        Command::OpenSlot(OPENING),
+        Command::Arrived(FRAME.to_vec()),
+        Command::Load(SETTINGS),
+        Command::OpenCycle(4),
+        Command::Show,
+    ];
+    commands.iter().flat_map(bytes_of).collect()
+}
+
+const LINES: &str = "checksum 0 7961021
+accepted 1 0 0
+slot 0 0
+event 0
+load 0 0
+open 0
+clock 1 2 3 4 5 6 7 8 9 0 11 1 1 4 0 0 0 EVEN 0 ODD 0
+status 1 2 3 4 5 6 7 8 9 0 11 1 0 1 0 16 0 1 4 1 0 1695 0
+script error at 7
+";
+
+/// Would write two lines more if a player went on to it.
+const BEHIND: Command = Command::Show;
+
+/// With a name for each. But for its fault each command would be good, and the one behind it is.
+pub fn one_of_each() -> [(&'static str, Small); 6] {
+    let room_above = Write { channel: 0, flags: 0b00100, id: 1, cycle: 0, payload: vec![1, 2], room: LIMIT + 1 };
+    let cases = [
+        ("unknown_letter", Cause::UnknownLetter, b"Z".to_vec()),
+        ("size_above_600", Cause::SizeAbove, bytes_of(&Command::read(0, &[0; LIMIT + 1]))),
+        ("room_above_600", Cause::RoomAbove, bytes_of(&Command::Write(room_above))),
+        ("wrong_switch", Cause::WrongSwitch, changed(&Command::Load(SETTINGS), SENDS_SYNC, 2)),
+        ("reason_above_5", Cause::ReasonAbove, changed(&Command::PutStatus(STATUS), REASON, 6)),
+        ("end_inside", Cause::EndInside, bytes_of(&Command::read(0, &FRAME))),
+    ];
+    cases.map(|(name, cause, error)| (name, around(cause, &error)))
+}
+
+/// Behind an end there is nothing: that command lacks its last byte.
+fn around(cause: Cause, error: &[u8]) -> Small {
+    let script = match cause {
+        Cause::EndInside => [&before(), &error[..error.len() - 1]].concat(),
+        _ => [&before(), error, &bytes_of(&BEHIND)].concat(),
+    };
+    Small { cause: Some(cause), script, text: LINES.to_string() }
+}

@@ -1,0 +1,72 @@
+//! The frames that are known whole on both channels, byte by byte as they were written down.
+
+use crate::channel::Channel;
+
+pub struct ListedFrame {
+    pub header: [u8; 5],
+    pub payload: &'static [u8],
+    /// That on A and that on B.
+    trailers: [[u8; 3]; 2],
+    /// What the header says, as a writer is given it.
+    pub flags: u8,
+    pub id: u16,
+    pub cycle: u8,
+    /// The numbers of a read's line between that of the answer and the payload.
+    pub fields: &'static str,
+    pub bench_line: &'static str,
+}
+
+/// 01 "Numbers to check against": ID 1, all indicators 0 but null frame bit 1, 0 words, cycle 0.
+pub const SHORT: ListedFrame = ListedFrame {
+    header: [0x20, 0x01, 0x01, 0xA7, 0xC0],
+    payload: &[],
+    trailers: [[0xD0, 0x5E, 0xEA], [0x3B, 0xD0, 0x8F]],
+    flags: 0b00100,
+    id: 1,
+    cycle: 0,
+    fields: "0 0 1 0 0 1 0 1695 0",
+    bench_line: "accepted 1 0 0",
+};
+
+/// A startup and sync frame, null frame bit 1: ID 3, cycle 5 and four bytes of payload.
+pub const STARTUP: ListedFrame = ListedFrame {
+    header: [0x38, 0x03, 0x05, 0x57, 0x05],
+    payload: &[0x01, 0x02, 0x03, 0x04],
+    trailers: [[0x85, 0xBF, 0x65], [0xE3, 0xE5, 0x60]],
+    flags: 0b11100,
+    id: 3,
+    cycle: 5,
+    fields: "0 0 1 1 1 3 2 1372 5",
+    bench_line: "accepted 3 5 2",
+};
+
+/// The longest null frame with the highest ID and cycle, all bytes of its payload 0.
+pub const LONG: ListedFrame = ListedFrame {
+    header: [0x07, 0xFF, 0xFE, 0x4D, 0x7F],
+    payload: &[0; 254],
+    trailers: [[0x38, 0x8F, 0xC6], [0x59, 0xBA, 0xF1]],
+    flags: 0b00000,
+    id: 2047,
+    cycle: 63,
+    fields: "0 0 0 0 0 2047 127 309 63",
+    bench_line: "accepted 2047 63 127",
+};
+
+pub const ALL: [ListedFrame; 3] = [SHORT, STARTUP, LONG];
+
+impl ListedFrame {
+    pub fn trailer(&self, channel: Channel) -> [u8; 3] {
+        self.trailers[usize::from(channel.number())]
+    }
+
+    pub fn bytes(&self, channel: Channel) -> Vec<u8> {
+        [&self.header, self.payload, &self.trailer(channel)].concat()
+    }
+
+    /// The first bytes, or all of them and zeros behind: as many as asked for.
+    pub fn sized(&self, channel: Channel, size: usize) -> Vec<u8> {
+        let mut bytes = self.bytes(channel);
+        bytes.resize(size, 0);
+        bytes
+    }
+}
