@@ -1,5 +1,5 @@
 -- Every number that closing makes of a sound clock state fits its type: nothing that is held is cut.
-use Prim.Native.Nat.{ℕ, _+_, _<_, _^_}
+use Prim.Native.Nat.{ℕ, _+_, _-_, _<_, _^_}
 use mathlib.Core.Path.{_≡_, refl, ap, _∙_}
 use mathlib.Core.Bool.{Bool, true, false}
 use mathlib.Core.List.{List, [], _∷_}
@@ -7,12 +7,13 @@ use native.Mathlib.Omega.{arith}
 use borrow.Author.Tests.{not-true}
 use lib.Dec.{lit<}
 use lib.IntN.{ℤ, pos, negℤ, _+ℤ_}
+use lib.ListN.{length}
 use lib.Signed.{ltZ}
 use Rattle.numbers.proofs.Signed.{up-neg, dn-neg, add-sum, sfits-by}
 use Rattle.numbers.proofs.Walk.{cases}
 use Rattle.midpoint.specs.Midpoint.{midpoint}
 use Rattle.midpoint.proofs.RangeLaws.{Near, Within, none, more, midpoint-within}
-use Rattle.settings.specs.Sheet.{syncIdLimit, offsetLimit, rateLimit, driftDamping, externalOffsetUnit, externalRateUnit}
+use Rattle.settings.specs.Sheet.{field, ranges, syncIdLimit, offsetLimit, rateLimit, driftDamping, externalOffsetUnit, externalRateUnit}
 use Rattle.correction.specs.declared.external.Control.{Control}
 use Rattle.correction.specs.Microtick.{held}
 use Rattle.correction.specs.Terms.{withOwn, isOutside, within, limited, damped, offsetTerm, rateTerm, rateTermBy}
@@ -25,7 +26,7 @@ use Rattle.sync_list.proofs.RangeLaws.{spread, rates-held, rates-near}
 use Rattle.clock.specs.declared.state.Clock.{Clock}
 use Rattle.clock.specs.State.{isOdd, currentCycle, listOf}
 use Rattle.clock.specs.Sound.{sound}
-use Rattle.clock.proofs.SoundLaws.{clauses, at-most, rows-good, not-outside}
+use Rattle.clock.proofs.SoundLaws.{clauses, highest, at-most, rows-good, not-outside}
 use Rattle.closing.specs.Closing.{offsetFound, rateFound}
 
 -- ---- what is limited lies within its limit
@@ -100,29 +101,26 @@ module _ (clock : Clock) (good : sound clock ≡ true) where
       (rate-near (rateValues (listed (clock .odd)) (listed (clock .even))) (s .«sends_sync») (clock .rate .0) (driftDamping s) (rateLimit s) stored-near))
       (λ t. rw t stored-near)
 
-  -- the external term never leads out of the type
-  external-held : (limit unit : ℕ) (x : ℤ) (control : Control) → Near limit x → limit + unit < 2 ^ 31
-      → held (withExternal x (signOf control) unit) ≡ withExternal x (signOf control) unit
-  external-held limit unit x control n small =
-      sum-held limit unit x (externalTerm (signOf control) unit) n (external-small control unit) small
+  -- the external term never leads out of the type: a term within the limit of one field, and the unit of another
+  external-held : (limit unit : ℕ) → limit - 1 < length ranges → unit - 1 < length ranges → highest limit + highest unit < 2 ^ 31
+      → (x : ℤ) (control : Control) → Near (field limit (clock .settings)) x
+      → held (withExternal x (signOf control) (field unit (clock .settings))) ≡ withExternal x (signOf control) (field unit (clock .settings))
+  external-held limit unit l u small x control n =
+      let s = clock .settings in
+      let k = clauses clock good in
+      let low = at-most s (k .settings) limit l in
+      let high = at-most s (k .settings) unit u in
+      sum-held (field limit s) (field unit s) x (externalTerm (signOf control) (field unit s)) n (external-small control (field unit s)) (omega arith)
 
   pub offset-reported : (control : Control)
       → held (withExternal (offsetFound clock .value .0) (signOf control) (externalOffsetUnit (clock .settings)))
       ≡ withExternal (offsetFound clock .value .0) (signOf control) (externalOffsetUnit (clock .settings))
   offset-reported control =
       let s = clock .settings in
-      let k = clauses clock good in
-      let limit = at-most s (k .settings) 5 (lit< tt) in
-      let unit = at-most s (k .settings) 8 (lit< tt) in
-      external-held (offsetLimit s) (externalOffsetUnit s) (offsetFound clock .value .0) control
-      (offset-near (offsetValues (listed (listOf (currentCycle clock) clock))) (s .«sends_sync») (offsetLimit s)) (omega arith)
+      external-held 5 8 (lit< tt) (lit< tt) (lit< tt) (offsetFound clock .value .0) control
+      (offset-near (offsetValues (listed (listOf (currentCycle clock) clock))) (s .«sends_sync») (offsetLimit s))
 
   pub rate-reported : (control : Control)
       → held (withExternal (rateFound clock .value .0) (signOf control) (externalRateUnit (clock .settings)))
       ≡ withExternal (rateFound clock .value .0) (signOf control) (externalRateUnit (clock .settings))
-  rate-reported control =
-      let s = clock .settings in
-      let k = clauses clock good in
-      let limit = at-most s (k .settings) 6 (lit< tt) in
-      let unit = at-most s (k .settings) 9 (lit< tt) in
-      external-held (rateLimit s) (externalRateUnit s) (rateFound clock .value .0) control found-near (omega arith)
+  rate-reported control = external-held 6 9 (lit< tt) (lit< tt) (lit< tt) (rateFound clock .value .0) control found-near

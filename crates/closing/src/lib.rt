@@ -4,7 +4,7 @@
 ghost use mathlib.Core.Path.{_≡_};
 ghost use mathlib.Core.Bool.{true};
 ghost use Rattle.correction.specs.External.{signOf};
-ghost use Rattle.clock.specs.Sound.{sound as Sound·sound};
+ghost use Rattle.clock.specs.Sound.{sound};
 ghost use Rattle.closing.specs.Closing.{told, offsetFound, rateFound, reportOf, closedWith, CloseSays};
 use clock::Clock;
 use clock::CycleOrNone;
@@ -122,7 +122,7 @@ fn offset_found(clock: Clock) -> Term
 
 // The rate term, without its external term: in an even cycle it is the stored rate.
 fn rate_found(clock: Clock) -> Term
-    requires { ⌜ Sound·sound clock ≡ true ⌝ }
+    requires { ⌜ sound clock ≡ true ⌝ }
     ensures { λ r. ⌜ r ≡ rateFound clock ⌝ }
 {
     let settings = clock.settings;
@@ -148,7 +148,7 @@ fn rate_found(clock: Clock) -> Term
 
 // The report, with the external term added to each term at last. The rate term is handed in: the rate that is stored is of it too.
 fn report_of(clock: Clock, rate: Term, offset_control: Control, rate_control: Control) -> Report
-    requires { ⌜ (Sound·sound clock ≡ true) × (rate ≡ rateFound clock) ⌝ }
+    requires { ⌜ (sound clock ≡ true) × (rate ≡ rateFound clock) ⌝ }
     ensures { λ r. ⌜ r ≡ reportOf clock (signOf «offset_control») (signOf «rate_control») ⌝ }
 {
     let settings = clock.settings;

@@ -4,7 +4,7 @@
 // which a header is written, `unpacked`, `packed` and `checksum_of` for the 40 bits as those of a number, and the conditions
 // `is_not_an_id`, `is_too_high` and `startup_without_sync`.
 ghost use mathlib.Core.Path.{_≡_};
-ghost use Prim.Native.Nat.{_<_};
+ghost use Prim.Native.Nat.{_<_, _^_};
 ghost use Rattle.division.specs.Bits.{bits, bit as Bits·bit};
 ghost use Rattle.header.specs.Layout.{wholeHeader, headerChecksumOf, headerIn};
 ghost use Rattle.header.specs.Refusals.{notAnId, cycleTooHigh, startupWithoutSync};
@@ -120,9 +120,10 @@ fn bit(set: bool) -> u64
     if set { 1 } else { 0 }
 }
 
-// The header's 40 bits, as those of a number.
+// The header's 40 bits, as those of a number that has no more.
 pub fn packed(header: Header) -> u64
     ensures { λ r. ⌜ bits 40 r ≡ wholeHeader header ⌝ }
+    ensures { λ r. ⌜ r < 2 ^ 40 ⌝ }
 {
     let sent = bit(header.reserved) * 2 + bit(header.preamble);
     let sent = sent * 2 + bit(header.null_frame_bit);

@@ -30,7 +30,8 @@ pub fn take(letter: u8) -> TakenItem {
     }
 }
 
-// How many bytes stand behind this letter up to the first size.
+// How many bytes stand behind this letter up to the first size. (The bound in the contract is ROOM, and so are those below, less what
+// is read from a place on.)
 fn size_behind(letter: u8) -> usize
     ensures { λ r. ⌜ r ≤ 385 ⌝ }
 {

@@ -95,7 +95,7 @@ header-laid c =
     let p = c .before .before .before .before in
     p .«put-number» .ensures
     ∙ ap (λ (x : List Bool). over (bytesOf 5 x) (now (entry c .args .output)))
-    (p .before .packed .ensures ∙ ap wholeHeader (p .before .before .«header-of» .ensures))
+    (p .before .packed .ensures .0 ∙ ap wholeHeader (p .before .before .«header-of» .ensures))
 
 payload-laid : (c : tie.After-fill)
     → putMid 5 (length (laidHeader c) - 5) (laidHeader c) (c .fill .last .0)

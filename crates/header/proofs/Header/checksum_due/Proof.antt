@@ -19,7 +19,7 @@ checksum-of-requires : tie.Need-checksum-of-requires
 checksum-of-requires c κs = search needs
 
 returns : tie.Need-returns
-returns c = c .«checksum-of» .ensures ∙ ap (λ (x : List Bool). headerChecksumOf (headerIn x)) (c .before .packed .ensures)
+returns c = c .«checksum-of» .ensures ∙ ap (λ (x : List Bool). headerChecksumOf (headerIn x)) (c .before .packed .ensures .0)
     ∙ checksum-whole (c .before .before .args .self)
 
 pub checksum-due-spec : {M : Type 1} → statement M
