@@ -42,7 +42,8 @@ use Rattle.measuring.specs.Measuring.{frameOf, delayOn, noSyncFrame, otherCycle
 use Rattle.measuring.specs.Measuring as measuring
 use Rattle.closing.specs.Closing.{closingRefusals, offsetFound, storedTerm, rateFound, reportWith, reportOf, closedOn}
 use Rattle.clock_claims.specs.Typed.{TypedList}
-use Rattle.clock_claims.specs.Histories.{InUse, Since, justLoaded, ofCycles, ofCycle, keptOf, current, ofCurrent, afterOpening, isFull, deviationIn, afterMeasuring, offsetIn, rateIn, reportIn, afterClosing, openRefusals, measureRefusals, closeRefusals, isEven, HoldsSince}
+use Rattle.clock_claims.specs.History.{InUse, Since, justLoaded, ofCycles, ofCycle, keptOf, current, ofCurrent, afterOpening, isFull, deviationIn, afterMeasuring, offsetIn, rateIn, reportIn, afterClosing, openRefusals, measureRefusals, closeRefusals}
+use Rattle.clock_claims.specs.Histories.{isEven, HoldsSince}
 use Rattle.clock_claims.proofs.InUse.{Every, every, cycles-same, kept-every, kept-all, cycles-none, cycles-more, cycles-other, cycles-nil, odd-not-even, before-odd, OfOpen, OfClosed, open-closed, own-open, before-open}
 use Rattle.clock_claims.proofs.Recorded.{has-place, recorded-typed, list-of-sound, list-of-typed}
 use Rattle.clock_claims.proofs.Reports.{offset-over, rate-over, count-over}

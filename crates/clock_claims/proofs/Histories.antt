@@ -31,7 +31,8 @@ use Rattle.closing.specs.declared.Report.{Report}
 use Rattle.closing.specs.declared.CycleClosed.{CycleClosed}
 use Rattle.closing.specs.Closing as closing
 use Rattle.closing.specs.Closing.{CloseSays, closingRefusals, reportOf, closedOn, noReport}
-use Rattle.clock_claims.specs.Histories.{Call, load, openCycle, measure, closeCycle, Answer, loaded, opened, measured, closed, Since, Past, nothing, since, justLoaded, afterOpening, deviationIn, afterMeasuring, reportIn, afterClosing, openRefusals, measureRefusals, closeRefusals, next, answer, pastOf, answersOf, Makes, MakesAll, Holds, Histories, SinceLoad, LoadFresh}
+use Rattle.clock_claims.specs.History.{Call, load, openCycle, measure, closeCycle, Answer, loaded, opened, measured, closed, Since, Past, nothing, since, justLoaded, afterOpening, deviationIn, afterMeasuring, reportIn, afterClosing, openRefusals, measureRefusals, closeRefusals, next, answer, pastOf, answersOf}
+use Rattle.clock_claims.specs.Histories.{Makes, MakesAll, Holds, Histories, SinceLoad, LoadFresh}
 use Rattle.clock_claims.proofs.Answers.{load-one, open-one, measure-one, close-one}
 use Rattle.clock_claims.proofs.Sound.{no-clock-unsound}
 use Rattle.clock_claims.proofs.Follows.{Follows, follows-load, open-number, follows-open, deviation-is, measure-number, follows-measure, close-number, report-is, follows-close}

@@ -8,7 +8,8 @@ use borrow.Author.Tests.{eqb-true, eqb-false, eq-eqb, ne-eqb}
 use lib.Dec.{eqb}
 use Rattle.numbers.proofs.Walk.{cases}
 use Rattle.measurements.specs.Measurements.{Taken}
-use Rattle.clock_claims.specs.Histories.{InUse, ofCycles, keptOf, isEven}
+use Rattle.clock_claims.specs.History.{InUse, ofCycles, keptOf}
+use Rattle.clock_claims.specs.Histories.{isEven}
 
 -- ---- of every measurement something holds
 

@@ -26,8 +26,9 @@ use Rattle.measuring.specs.declared.FrameMeasured.{FrameMeasured}
 use Rattle.measuring.specs.Measuring as measure
 use Rattle.closing.specs.declared.CycleClosed.{CycleClosed}
 use Rattle.closing.specs.Closing as close
-use Rattle.clock_claims.specs.Histories.{Call, loaded, opened, measured, closed, Leaves, Possible}
-use Rattle.clock_claims.specs.Histories as call
+use Rattle.clock_claims.specs.History.{Call, loaded, opened, measured, closed}
+use Rattle.clock_claims.specs.Histories.{Leaves, Possible}
+use Rattle.clock_claims.specs.History as call
 use Rattle.clock_claims.proofs.Answers.{openingBy, measuringBy, closingBy}
 
 -- what holds of 0 and of every number of a list holds of the first

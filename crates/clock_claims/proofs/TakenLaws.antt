@@ -30,7 +30,7 @@ use Rattle.measurements.proofs.RowLaws.{rows-ids}
 use Rattle.measurements.proofs.RowInLaws.{in-here, in-later}
 use Rattle.clock.proofs.SoundLaws.{count-within, rows-good, ids-different}
 use Rattle.clock_claims.specs.Typed.{TypedList}
-use Rattle.clock_claims.specs.Histories.{isTaken, isFull}
+use Rattle.clock_claims.specs.History.{isTaken, isFull}
 
 -- ---- in any order
 

@@ -26,7 +26,8 @@ use Rattle.closing.specs.declared.CycleClosed.{CycleClosed}
 use Rattle.closing.specs.Closing as closing
 use Rattle.closing.specs.Closing.{CloseSays}
 use Rattle.clock_claims.specs.Typed.{TypedClock}
-use Rattle.clock_claims.specs.Histories.{Call, load, openCycle, measure, closeCycle, Answer, closed, nothing, next, answer, pastOf, answersOf, Past, Makes, MakesAll, Holds}
+use Rattle.clock_claims.specs.History.{Call, load, openCycle, measure, closeCycle, Answer, closed, nothing, next, answer, pastOf, answersOf, Past}
+use Rattle.clock_claims.specs.Histories.{Makes, MakesAll, Holds}
 use Rattle.clock_claims.specs.Witnesses.{LoadedWell, OpenedWell, MeasuredWell, ClosedWell, firstIn, secondIn, controlOf, callOf, MadeBy, Played, ClosedAfter}
 use Rattle.clock_claims.proofs.Answers.{load-in-order, open-in-order, measure-in-order, close-in-order, load-field, load-refused, open-refused, measure-refused, close-refused}
 use Rattle.clock_claims.proofs.Histories.{histories, load-fresh}

@@ -22,7 +22,8 @@ use Rattle.measuring.specs.declared.FrameMeasured.{FrameMeasured}
 use Rattle.measuring.specs.Measuring as measuring
 use Rattle.closing.specs.declared.CycleClosed.{CycleClosed}
 use Rattle.closing.specs.Closing as closing
-use Rattle.clock_claims.specs.Histories.{Call, load, openCycle, measure, closeCycle, Answer, closed, nothing, answer, next, pastOf, MakesAll, Holds, JustLoaded}
+use Rattle.clock_claims.specs.History.{Call, load, openCycle, measure, closeCycle, Answer, closed, nothing, answer, next, pastOf}
+use Rattle.clock_claims.specs.Histories.{MakesAll, Holds, JustLoaded}
 
 -- ---- one call
 

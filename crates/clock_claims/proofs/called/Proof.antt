@@ -17,7 +17,8 @@ use Rattle.clock.specs.Loading as loading
 use Rattle.clock.specs.Opening as opening
 use Rattle.measuring.specs.Measuring as measuring
 use Rattle.closing.specs.Closing as closing
-use Rattle.clock_claims.specs.Histories.{Call, Leaves, loaded, opened, measured, closed}
+use Rattle.clock_claims.specs.History.{Call, loaded, opened, measured, closed}
+use Rattle.clock_claims.specs.Histories.{Leaves}
 use Rattle.clock_claims.proofs.Witnesses.{call-0, call-1, call-2, call-3, call-4, call-5}
 
 load-requires : tie.Need-load-requires

@@ -15,7 +15,7 @@ use native.Mathlib.Omega.{arith}
 use denote.Ref.{now}
 use lib.ListN.{length, getD, take}
 use lib.Seq.{take-length, take-suc}
-use Rattle.clock_claims.specs.Histories.{Call}
+use Rattle.clock_claims.specs.History.{Call}
 use Rattle.clock_claims.specs.Witnesses.{callOf, callsOf, MadeBy}
 use Rattle.clock_claims.proofs.Witnesses.{made-more, played-well}
 
