@@ -4,17 +4,14 @@ ghost use mathlib.Core.Path.{_≡_};
 ghost use mathlib.Core.Bool.{true};
 ghost use Rattle.bench_line.specs.Line.{LineSays};
 
-// How much of an input tells its line: a channel byte, the 262 bytes of the longest frame, and one more.
-const FRONT: usize = 264;
-
 // The line of an input by its front alone, which is all that the bench program reads of it.
 pub fn line_by_front(input: &[u8], output: &mut [u8]) -> usize
     ensures { λ r. ⌜ LineSays (now (input .entry)) (now (output .entry)) (now (output .exit)) r ⌝ }
 {
-    if input.len() < FRONT {
+    if input.len() < bench_line::FRONT {
         return bench_line::line(input, output);
     }
-    bench_line::line(&input[0..FRONT], output)
+    bench_line::line(&input[0..bench_line::FRONT], output)
 }
 
 // Whether there is room for the line of an input: always.

@@ -14,6 +14,9 @@ use header::Header;
 // The longest line, `accepted 2047 63 127` and its line feed. Output of this size takes every line.
 pub const LONGEST: usize = 21;
 
+// How much of an input tells its line: a channel byte, the 262 bytes of the longest frame, and one more. What lies behind changes no line.
+pub const FRONT: usize = 264;
+
 // Room for a word, three numbers of any size and a line feed.
 const ROOM: usize = 72;
 

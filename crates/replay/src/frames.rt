@@ -1,5 +1,5 @@
-// The commands on frames: frame checksum, read, write and the bench line. Each takes what stands behind its item, writes its line and
-// answers true, or answers false where it meets a script error.
+// The commands on frames: frame checksum, read, write and the bench line. Each writes its line and answers true, or answers false where
+// it meets a script error.
 use crate::item;
 use crate::item::Item;
 use crate::line;
@@ -10,50 +10,37 @@ use header::Fields;
 use header::Slot;
 use libc::STDOUT_FILENO;
 
-// Plays the command on frames that has this letter.
+// Plays the command on frames that has this letter: each takes a size and bytes behind its item, and `W` a room behind them.
 pub fn play(letter: u8, item: Item) -> bool {
+    let mut space = [0u8; script::MOST];
+    let size = script::take_bytes(&mut space);
+    if size.is_script_error {
+        return false;
+    }
+    let end = size.bytes;
+    answer(letter, item, &space[0..end])
+}
+
+fn answer(letter: u8, item: Item, bytes: &[u8]) -> bool {
     match letter {
-        b'F' => frame_checksum(item[0]),
-        b'R' => read(item[0]),
-        b'W' => write(item),
-        b'P' => bench_line(),
+        b'F' => answer_checksum(item[0], bytes),
+        b'R' => answer_read(item[0], bytes),
+        b'W' => write(item, bytes),
+        b'P' => answer_bench(bytes),
         _ => false,
     }
 }
 
-// `F`: channel; size, bytes.
-fn frame_checksum(channel: u8) -> bool {
-    let mut space = [0u8; script::MOST];
-    let size = script::take_bytes(&mut space);
-    if size.is_script_error {
-        return false;
-    }
-    let end = size.bytes;
-    answer_checksum(channel, &space[0..end]);
-    true
-}
-
-// `checksum N VALUE`
-fn answer_checksum(channel: u8, bytes: &[u8]) {
+// `F`, whose item is a channel: `checksum N VALUE`
+fn answer_checksum(channel: u8, bytes: &[u8]) -> bool {
     let checksum = checksum::frame_checksum(channel, bytes);
     let numbers = [checksum.number() as u64, checksum.value() as u64];
     line::write(b"checksum", &numbers);
-}
-
-// `R`: channel; size, bytes.
-fn read(channel: u8) -> bool {
-    let mut space = [0u8; script::MOST];
-    let size = script::take_bytes(&mut space);
-    if size.is_script_error {
-        return false;
-    }
-    let end = size.bytes;
-    answer_read(channel, &space[0..end]);
     true
 }
 
-// `read 0 RESERVED PREAMBLE NULL SYNC STARTUP ID WORDS CHECKSUM CYCLE PAYLOAD`, or `read N PAYLOAD`
-fn answer_read(channel: u8, bytes: &[u8]) {
+// `R`, whose item is a channel: `read 0 RESERVED PREAMBLE NULL SYNC STARTUP ID WORDS CHECKSUM CYCLE PAYLOAD`, or `read N PAYLOAD`
+fn answer_read(channel: u8, bytes: &[u8]) -> bool {
     let reading = frame::read(channel, bytes);
     let mut line = [0u8; line::ROOM];
     let at = line::put(&mut line, 0, b"read");
@@ -61,6 +48,7 @@ fn answer_read(channel: u8, bytes: &[u8]) {
     let at = put_header(&mut line, at, reading);
     let at = line::hex(&mut line, at, frame::payload(channel, bytes));
     line::end(&mut line, at);
+    true
 }
 
 // Puts the nine fields of a frame that was accepted, and nothing where it was refused.
@@ -82,23 +70,16 @@ fn put_header(line: &mut [u8; line::ROOM], at: usize, reading: Reading) -> usize
     line::decimals(line, at, &numbers)
 }
 
-// `W`: channel, flags, ID, cycle; size, payload, room.
-fn write(item: Item) -> bool {
-    let mut space = [0u8; script::MOST];
-    let size = script::take_bytes(&mut space);
-    if size.is_script_error {
-        return false;
-    }
+// `W`, whose item is channel, flags, ID and cycle. The bytes are the payload, and the room stands behind them.
+fn write(item: Item, payload: &[u8]) -> bool {
     let room = script::take_size(script::MOST);
     if room.is_script_error {
         return false;
     }
     let fields = fields_of(item[1], item::number(item, 2), item[4]);
-    let end = size.bytes;
     let lent = room.bytes;
     let mut output = [0xA5u8; script::MOST];
-    answer_write(item[0], fields, &space[0..end], &mut output[0..lent]);
-    true
+    answer_write(item[0], fields, payload, &mut output[0..lent])
 }
 
 // The fields to write. A flag is a bit, the first the lowest; the bits above the five are not looked at.
@@ -115,7 +96,7 @@ pub fn fields_of(flags: u8, id: u16, cycle: u8) -> Fields {
 }
 
 // `write N LENGTH OUTPUT`
-fn answer_write(channel: u8, fields: Fields, payload: &[u8], output: &mut [u8]) {
+fn answer_write(channel: u8, fields: Fields, payload: &[u8], output: &mut [u8]) -> bool {
     let writing = frame::write(channel, fields, payload, output);
     let numbers = [writing.number() as u64, writing.length() as u64];
     let mut line = [0u8; line::ROOM];
@@ -123,18 +104,13 @@ fn answer_write(channel: u8, fields: Fields, payload: &[u8], output: &mut [u8]) 
     let at = line::decimals(&mut line, at, &numbers);
     let at = line::hex(&mut line, at, output);
     line::end(&mut line, at);
+    true
 }
 
-// `P`: size, bytes. The line is the one that the bench program writes for them.
-fn bench_line() -> bool {
-    let mut space = [0u8; script::MOST];
-    let size = script::take_bytes(&mut space);
-    if size.is_script_error {
-        return false;
-    }
-    let input = size.bytes;
+// `P`, which has no item: the line that the bench program writes for these bytes.
+fn answer_bench(input: &[u8]) -> bool {
     let mut line = [0u8; bench_line::LONGEST];
-    let end = bench_line::line(&space[0..input], &mut line);
+    let end = bench_line::line(input, &mut line);
     io::write_all(STDOUT_FILENO, &line[0..end]);
     true
 }

@@ -2,17 +2,13 @@
 use Prim.Native.Nat.{ℕ}
 use mathlib.Core.Path.{_≡_, refl, sym, ap, _∙_}
 use mathlib.Core.Bool.{true, false, not}
-use mathlib.Core.List.{List, [], _∷_}
-use native.Mathlib.Omega.{arith}
+use mathlib.Core.List.{List}
 use borrow.Author.Tests.{eq-eqb, ne-eqb}
-use denote.Enum.Declared.{tagOf}
-use types.Run.{OneOf, miss}
 use Rattle.refusal.specs.Refusal.{first, ifAccepted}
 use Rattle.refusal.proofs.FirstLaws.{first-skip, first-here, first-end, if-accepted}
 use Rattle.checksum.specs.declared.Channel.{Channel}
 use Rattle.header.specs.declared.Header.{Header}
 use Rattle.header.specs.Layout.{noHeader}
-use Rattle.frame.proofs.reader.Reading.{the-type}
 use Rattle.frame.specs.declared.reader.Reading.{Reading}
 use Rattle.frame.specs.declared.reader.Reading.the-variants as reading
 use Rattle.frame.specs.Read.{headerRead, refusalsOn, ReadOnSays}
@@ -43,18 +39,6 @@ first-kept-none kept.Nothing = refl
 first-kept-none (kept.Frame h) = refl
 
 -- ---- the reader's answer
-
--- any case but the first is a refusal
-pub not-accepted : (r : Reading) → OneOf (1 ∷ 2 ∷ 3 ∷ 4 ∷ 5 ∷ 6 ∷ 7 ∷ 8 ∷ []) (tagOf the-type r) → read.told r .number ≡ 0 → ⊥
-not-accepted (reading.Accepted h) k e = miss (1 ∷ 2 ∷ 3 ∷ 4 ∷ 5 ∷ 6 ∷ 7 ∷ 8 ∷ []) 0 tt k
-not-accepted reading.NotAChannel k e = omega arith
-not-accepted reading.TooShort k e = omega arith
-not-accepted reading.BadSize k e = omega arith
-not-accepted reading.HeaderChecksumDiffers k e = omega arith
-not-accepted reading.WordsNotSize k e = omega arith
-not-accepted reading.IdZero k e = omega arith
-not-accepted reading.StartupWithoutSync k e = omega arith
-not-accepted reading.FrameChecksumDiffers k e = omega arith
 
 pub brings-refused : (p : Place) (bytes : List ℕ) → isRefused (p .channel) bytes ≡ true
     → brings p (arrival bytes) ≡ ofArrival true reason.NoReason kept.Nothing

@@ -10,7 +10,8 @@ use Rattle.slot.specs.Judging.{placeOf}
 use Rattle.slot.specs.Sound.{sound}
 use Rattle.slot_events.specs.Effect.{arrival, joined}
 use Rattle.slot_events.specs.Events.{EventSays}
-use Rattle.slot_events.proofs.EventLaws.{not-accepted, brings-refusal, after-refusal, brings-frame, event-refused, event-recorded}
+use Rattle.frame.proofs.AnswerLaws.{not-accepted}
+use Rattle.slot_events.proofs.EventLaws.{brings-refusal, after-refusal, brings-frame, event-refused, event-recorded}
 use borrow.Author.Needs.{needs}
 use Rattle.slot_events.proofs.arrived.Statement.{statement}
 use Rattle.slot_events.proofs.arrived.Tie as tie
