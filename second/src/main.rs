@@ -1,7 +1,9 @@
-//! A second program for FlexRay frames, slots and clock: works out what a replay script must give, and makes such scripts.
+//! A second program for FlexRay frames, slots and clock: works out what a replay script must give, and makes such scripts
+//! and inputs for the bench program.
 
 mod answer;
 mod bench;
+mod bench_inputs;
 mod bits;
 mod cases;
 mod channel;
@@ -72,6 +74,7 @@ fn write_scripts(directory: &Path) -> Done {
     fs::write(directory.join("stdin"), &vectors.script)?;
     fs::write(directory.join("stdout"), &vectors.text)?;
     write_ends(&directory.join("ends"))?;
+    write_bench_inputs(&directory.join("bench"))?;
     println!("{}", vectors.summary);
     Ok(())
 }
@@ -82,6 +85,16 @@ fn write_ends(directory: &Path) -> Done {
     for (name, small) in errors::one_of_each() {
         fs::write(directory.join(format!("{name}.stdin")), &small.script)?;
         fs::write(directory.join(format!("{name}.stdout")), &small.text)?;
+    }
+    Ok(())
+}
+
+/// Inputs for the bench program, also those that are too long for a script.
+fn write_bench_inputs(directory: &Path) -> Done {
+    fs::create_dir_all(directory)?;
+    for input in bench_inputs::all() {
+        fs::write(directory.join(format!("{}.stdin", input.name)), &input.bytes)?;
+        fs::write(directory.join(format!("{}.stdout", input.name)), input.text)?;
     }
     Ok(())
 }

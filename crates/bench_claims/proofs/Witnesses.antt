@@ -9,10 +9,10 @@ use lib.ListN.{length, take, drop, length-append}
 use borrow.Author.Tests.{le-ltb, lt-ltb}
 use Rattle.frame.specs.Read.{headerRead, rule}
 use Rattle.frame.specs.Write.{over}
-use Rattle.bench_line.specs.Line.{refusalOf, acceptedWord, refusedWord, behindSpace, lineFeed, lineBy, lineOf, LineSays}
+use Rattle.bench_line.specs.Line.{refusalOf, acceptedWord, refusedWord, behindSpace, lineFeed, lineBy, lineOf, front, longest, LineSays}
 use Rattle.bench_claims.proofs.Line.{front-decides, at-most-21}
 
-pub says-by-front : (input before after : List ℕ) (size : ℕ) → LineSays (take 264 input) before after size → LineSays input before after size
+pub says-by-front : (input before after : List ℕ) (size : ℕ) → LineSays (take front input) before after size → LineSays input before after size
 says-by-front input before after size s =
     let e = front-decides input in
     record {
@@ -28,9 +28,17 @@ line-some zero bytes =
     (arith, length-append (acceptedWord ++ behindSpace (h .id .0) ++ behindSpace (h .cycle .0) ++ behindSpace (h .words)) lineFeed)
 line-some (suc n) bytes = omega (arith, length-append (refusedWord ++ behindSpace (suc n)) lineFeed)
 
-pub room-for-any : (input before after : List ℕ) (size : ℕ) → length before ≡ 21 → LineSays input before after size → ltb 0 size ≡ true
+-- output of the longest line's size takes every line
+pub taken-whole : (input before after : List ℕ) (size : ℕ) → length before ≡ longest → LineSays input before after size
+    → (size ≡ length (lineOf input)) × (after ≡ over (lineOf input) before)
+taken-whole input before after size long s =
+    let room = le-ltb (length before) (length (lineOf input)) (omega (arith, at-most-21 input)) in (
+      s .answers ∙ ap (λ (b : Bool). cond b 0 (length (lineOf input))) room,
+      s .writes ∙ ap (λ (b : Bool). cond b before (over (lineOf input) before)) room,
+    )
+
+pub room-for-any : (input before after : List ℕ) (size : ℕ) → length before ≡ longest → LineSays input before after size → ltb 0 size ≡ true
 room-for-any input before after size long s =
-    let room = le-ltb (length before) (length (lineOf input)) (omega (arith, at-most-21 input)) in
-    let e : size ≡ length (lineOf input) = s .answers ∙ ap (λ (b : Bool). cond b 0 (length (lineOf input))) room in
+    let e = taken-whole input before after size long s .0 in
     let some = line-some (refusalOf input) (drop 1 input) in
     lt-ltb 0 size (omega arith)

@@ -5,7 +5,7 @@ use mathlib.Core.Bool.{cond}
 use mathlib.Core.List.{List, [], _∷_}
 use lib.ListN.{length, take}
 use Rattle.checksum.specs.Channel.{notAChannel}
-use Rattle.bench_line.specs.Line.{refusedLine, lineOf, LineSays}
+use Rattle.bench_line.specs.Line.{refusedLine, lineOf, front, longest, LineSays}
 
 -- Any two results that the statement allows are equal: the size and the whole output.
 abbrev pub LineOne : Type 0
@@ -25,8 +25,8 @@ TooLong =
 
 -- So what lies behind the first 264 bytes changes no line, and a program may leave it unread.
 abbrev pub FrontDecides : Type 0
-FrontDecides = (input : List ℕ) → lineOf (take 264 input) ≡ lineOf input
+FrontDecides = (input : List ℕ) → lineOf (take front input) ≡ lineOf input
 
 -- The longest line is `accepted 2047 63 127` with its line feed.
 abbrev pub AtMost21 : Type 0
-AtMost21 = (input : List ℕ) → length (lineOf input) ≤ 21
+AtMost21 = (input : List ℕ) → length (lineOf input) ≤ longest

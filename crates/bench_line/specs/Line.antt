@@ -1,5 +1,5 @@
 -- The line of the bench program: "The bench program reads a channel byte and frame bytes and writes one line".
-use Prim.Native.Nat.{ℕ}
+use Prim.Native.Nat.{ℕ, _+_}
 use mathlib.Core.Path.{_≡_}
 use mathlib.Core.Bool.{Bool, cond}
 use mathlib.Core.List.{List, [], _∷_, _++_}
@@ -53,6 +53,15 @@ lineBy t = ifAccepted (t .number) (acceptedLine (t .header)) (refusedLine (t .nu
 
 abbrev pub lineOf : List ℕ → List ℕ
 lineOf input = lineBy (readInput input)
+
+-- How many bytes of an input tell its line: the channel byte, the 262 bytes of the longest frame, and one more ("more than 263 input
+-- bytes").
+abbrev pub front : ℕ
+front = 1 + 262 + 1
+
+-- How many bytes the longest line has: `accepted 2047 63 127`, and its line feed.
+abbrev pub longest : ℕ
+longest = 21
 
 -- ---- the statement
 

@@ -6,7 +6,7 @@ ghost use mathlib.Core.Path.{_≡_};
 ghost use Prim.Native.Nat.{_+_, _≤_};
 ghost use lib.ListN.{length};
 ghost use Rattle.frame.specs.Read.{told};
-ghost use Rattle.bench_line.specs.Line.{behindSpace, acceptedLine, refusedLine, lineBy, ReadingOfInput, LineSays};
+ghost use Rattle.bench_line.specs.Line.{front as Line·front, longest as Line·longest, behindSpace, acceptedLine, refusedLine, lineBy, ReadingOfInput, LineSays};
 ghost use Rattle.bench_line.specs.Putting.{Puts, numberRoom, lineRoom};
 use frame::Reading;
 use header::Header;
@@ -16,6 +16,19 @@ pub const LONGEST: usize = 21;
 
 // How much of an input tells its line: a channel byte, the 262 bytes of the longest frame, and one more. What lies behind changes no line.
 pub const FRONT: usize = 264;
+
+// A contract can't name a constant. These two return one each, and so hold it to its rule.
+fn longest() -> usize
+    ensures { λ r. ⌜ r ≡ Line·longest ⌝ }
+{
+    LONGEST
+}
+
+fn front() -> usize
+    ensures { λ r. ⌜ r ≡ Line·front ⌝ }
+{
+    FRONT
+}
 
 // Room for a word, three numbers of any size and a line feed.
 const ROOM: usize = 72;

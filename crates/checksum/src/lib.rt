@@ -8,6 +8,7 @@ ghost use mathlib.Core.List.{[], _∷_};
 ghost use Prim.Native.Nat.{_<_, _≤_, _^_, min};
 ghost use Rattle.division.specs.Bits.{bits, bytesBits};
 ghost use Rattle.division.specs.Division.{Fed};
+ghost use Rattle.checksum.specs.declared.Channel.the-variants.{A as Channel·A, B as Channel·B};
 ghost use Rattle.checksum.specs.declared.Named.the-variants.{Is};
 ghost use Rattle.checksum.specs.Channel.{numberOf, startOf, namedBy};
 ghost use Rattle.checksum.specs.Checksums.{headerDivision, framePolynomial, frameChecksum};
@@ -29,6 +30,19 @@ impl Channel {
     pub const START_A: u32 = 0xFE_DCBA;
 
     pub const START_B: u32 = 0xAB_CDEF;
+
+    // A contract can't name a constant. These two return one each, and so hold it to 01's value.
+    fn start_a() -> u32
+        ensures { λ r. ⌜ r ≡ startOf Channel·A ⌝ }
+    {
+        Channel::START_A
+    }
+
+    fn start_b() -> u32
+        ensures { λ r. ⌜ r ≡ startOf Channel·B ⌝ }
+    {
+        Channel::START_B
+    }
 
     pub fn start(self) -> u32
         ensures { λ r. ⌜ (r ≡ startOf self) × (r < 2 ^ 24) ⌝ }

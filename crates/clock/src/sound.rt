@@ -5,7 +5,8 @@ use crate::state::Clock;
 use crate::state::CycleOrNone;
 use correction::SignedMicrotick;
 
-// Soundness as 01 writes it, clause by clause. It is no stricter: refusal 23 is given exactly where a state is not sound.
+// Soundness as 01 writes it, clause by clause, of the lists that the rows stand for. It is no stricter: refusal 23 is given exactly where
+// a state is not sound. What is asked of rows besides is that they stand for a list at all.
 pub fn is_sound(clock: Clock) -> bool
     ensures { λ r. ⌜ r ≡ sound clock ⌝ }
 {

@@ -31,6 +31,7 @@ use Rattle.clock_claims.specs.Histories.{Makes, MakesAll, Holds}
 use Rattle.clock_claims.specs.Witnesses.{LoadedWell, OpenedWell, MeasuredWell, ClosedWell, firstIn, secondIn, controlOf, callOf, MadeBy, Played, ClosedAfter}
 use Rattle.clock_claims.proofs.Answers.{load-in-order, open-in-order, measure-in-order, close-in-order, load-field, load-refused, open-refused, measure-refused, close-refused}
 use Rattle.clock_claims.proofs.Histories.{histories, load-fresh}
+use Rattle.clock_claims.proofs.Reports.{reported-over}
 use Rattle.clock_claims.proofs.SoundCalls.{loaded-sound, opened-sound, measured-sound, closed-sound}
 
 -- ---- one call
@@ -74,8 +75,9 @@ measured-well c status observed actionPoint r typed h =
       refused = measure-refused c status observed actionPoint r h;
     }
 
-pub closed-well : (c : Clock) (offsetControl rateControl : ℤ) (r : CycleClosed) → CloseSays c offsetControl rateControl r → ClosedWell c offsetControl rateControl r
-closed-well c offsetControl rateControl r h =
+pub closed-well : (c : Clock) (offsetControl rateControl : ℤ) (r : CycleClosed) → TypedClock c → CloseSays c offsetControl rateControl r
+    → ClosedWell c offsetControl rateControl r
+closed-well c offsetControl rateControl r typed h =
     let number : closing.told (r .answer) .number ≡ 0 → first (closing.closingRefusals c offsetControl rateControl) ≡ 0 =
     λ e. sym (ap (λ (t : closing.Told). t .number) (h .answers)) ∙ e in
     record {
@@ -86,6 +88,7 @@ closed-well c offsetControl rateControl r h =
             h .leaves ∙ if-accepted _ (closing.closedOn c) c (number e),
             closed-sound c offsetControl rateControl r h e,
           );
+      over = reported-over c offsetControl rateControl r typed h;
       refused = close-refused c offsetControl rateControl r h;
     }
 

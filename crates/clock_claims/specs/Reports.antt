@@ -14,17 +14,16 @@ use Rattle.measurements.specs.Terms.{offsetValuesOf, rateValuesOf}
 use Rattle.clock.specs.declared.state.Clock.{Clock}
 use Rattle.clock.specs.State.{isOdd, currentCycle, listOf}
 use Rattle.closing.specs.declared.CycleClosed.{CycleClosed}
+use Rattle.closing.specs.declared.Report.{Report}
 use Rattle.closing.specs.Closing as closing
 use Rattle.closing.specs.Closing.{storedTerm, reportWith, CloseSays}
 use Rattle.clock_claims.specs.Typed.{TypedClock}
 
--- Whatever order the measurements of the closed cycle and those of the even list come in, the report is that of 01's rules over them.
-abbrev pub ReportedOver : Type 0
-ReportedOver =
-    (c : Clock) (offsetControl rateControl : ℤ) (r : CycleClosed) → TypedClock c → CloseSays c offsetControl rateControl r
-    → closing.told (r .answer) .number ≡ 0
-    → (ms before : List Taken) → Permuted ms (standsFor (listed (listOf (currentCycle c) c))) → Permuted before (standsFor (listed (c .even)))
-    → closing.told (r .answer) .report
+-- Whatever order the measurements of the closed cycle and those of the even list come in, this is the report of 01's rules over them.
+abbrev pub IsOverMeasurements : Clock → ℤ → ℤ → Report → Type 0
+IsOverMeasurements c offsetControl rateControl report =
+    (ms before : List Taken) → Permuted ms (standsFor (listed (listOf (currentCycle c) c))) → Permuted before (standsFor (listed (c .even)))
+    → report
     ≡ reportWith (c .settings) (offsetTerm (offsetValuesOf ms) (c .settings .«sends_sync») (offsetLimit (c .settings)))
     (cond (isOdd (currentCycle c))
     (rateTerm (rateValuesOf ms before) (c .settings .«sends_sync») (c .rate .0) (driftDamping (c .settings)) (rateLimit (c .settings)))
@@ -32,3 +31,9 @@ ReportedOver =
     (length (differentIds ms))
     offsetControl
     rateControl
+
+abbrev pub ReportedOver : Type 0
+ReportedOver =
+    (c : Clock) (offsetControl rateControl : ℤ) (r : CycleClosed) → TypedClock c → CloseSays c offsetControl rateControl r
+    → closing.told (r .answer) .number ≡ 0
+    → IsOverMeasurements c offsetControl rateControl (closing.told (r .answer) .report)

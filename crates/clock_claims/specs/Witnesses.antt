@@ -24,6 +24,7 @@ use Rattle.closing.specs.declared.CycleClosed.{CycleClosed}
 use Rattle.closing.specs.Closing as closing
 use Rattle.clock_claims.specs.History.{Call, load, openCycle, measure, closeCycle, Answer, closed, nothing, answer, next, pastOf}
 use Rattle.clock_claims.specs.Histories.{MakesAll, Holds, JustLoaded}
+use Rattle.clock_claims.specs.Reports.{IsOverMeasurements}
 
 -- ---- one call
 
@@ -50,10 +51,12 @@ pub record MeasuredWell (c : Clock) (status : Status) (observed actionPoint : Mi
       × (sound (r .clock) ≡ true)
   pub refused : (measuring.told (r .answer) .number ≡ 0 → ⊥) → (measuring.told (r .answer) .deviation ≡ pos 0) × (r .clock ≡ c)
 
+-- And what is reported of a closed cycle is 01's, over the measurements that the lists stand for.
 pub record ClosedWell (c : Clock) (offsetControl rateControl : ℤ) (r : CycleClosed) : Type 0 where
   pub inOrder : InOrder (closing.closingRefusals c offsetControl rateControl) (closing.told (r .answer) .number)
   pub accepted : closing.told (r .answer) .number ≡ 0
       → (closing.told (r .answer) .report ≡ closing.reportOf c offsetControl rateControl) × (r .clock ≡ closing.closedOn c) × (sound (r .clock) ≡ true)
+  pub over : closing.told (r .answer) .number ≡ 0 → IsOverMeasurements c offsetControl rateControl (closing.told (r .answer) .report)
   pub refused : (closing.told (r .answer) .number ≡ 0 → ⊥) → (closing.told (r .answer) .report ≡ closing.noReport) × (r .clock ≡ c)
 
 -- ---- whole sequences

@@ -1,4 +1,4 @@
--- The values of a midpoint in their array, and the terms by whether there are any.
+-- The values of a midpoint in their array, and what holds by whether there are any.
 use Prim.Native.Nat.{ℕ, zero, suc, _+_, _≤_, _<_}
 use mathlib.Core.Path.{_≡_, refl, sym}
 use mathlib.Core.Bool.{Bool, true, false, false≢true}
@@ -13,7 +13,7 @@ use lib.Seq.{take-set-le, take-suc-set}
 use Rattle.numbers.proofs.Walk.{cases}
 use Rattle.midpoint.specs.Midpoint.{midpoint, mostValues, midpointOfFirst}
 use Rattle.correction.specs.declared.term.Values.{Values}
-use Rattle.correction.specs.Terms.{mostIds, valuesIn, isNone, withOwn, damped, limited, missing, offsetTerm, rateTermBy}
+use Rattle.correction.specs.Terms.{mostIds, valuesIn, isNone, withOwn}
 
 -- ---- the values
 
@@ -46,21 +46,18 @@ module _ (l : List ℤ) (n : ℕ) (few : n ≤ mostIds) (long : length l ≡ mos
 
 -- ---- the terms
 
-module _ (sendsSync : Bool) (limit : ℕ) where
-  pub offset-none : (l : List ℤ) → isNone l ≡ true → offsetTerm l sendsSync limit ≡ missing (pos 0)
-  offset-none [] e = refl
-  offset-none (v ∷ vs) e = absurd (false≢true e)
+-- what holds of no values, or of values that are there, by whether there are any
+module _ (P : List ℤ → Type 0) (l : List ℤ) where
+  pub where-none : isNone l ≡ true → P [] → P l
+  where-none e p = none l e
+    where
+      none : (m : List ℤ) → isNone m ≡ true → P m
+      none [] e = p
+      none (v ∷ vs) e = absurd (false≢true e)
 
-  pub offset-some : (l : List ℤ) → isNone l ≡ false → offsetTerm l sendsSync limit ≡ limited limit (midpoint (withOwn sendsSync l))
-  offset-some [] e = absurd (false≢true (sym e))
-  offset-some (v ∷ vs) e = refl
-
-  module _ (hold : ℤ → ℤ) (stored : ℤ) (d : ℕ) where
-    pub rate-none : (l : List ℤ) → isNone l ≡ true → rateTermBy hold l sendsSync stored d limit ≡ missing stored
-    rate-none [] e = refl
-    rate-none (v ∷ vs) e = absurd (false≢true e)
-
-    pub rate-some : (l : List ℤ) → isNone l ≡ false
-        → rateTermBy hold l sendsSync stored d limit ≡ limited limit (damped d (hold (midpoint (withOwn sendsSync l) +ℤ stored)))
-    rate-some [] e = absurd (false≢true (sym e))
-    rate-some (v ∷ vs) e = refl
+  pub where-some : isNone l ≡ false → ((v : ℤ) (vs : List ℤ) → P (v ∷ vs)) → P l
+  where-some e p = some l e
+    where
+      some : (m : List ℤ) → isNone m ≡ false → P m
+      some [] e = absurd (false≢true (sym e))
+      some (v ∷ vs) e = p v vs

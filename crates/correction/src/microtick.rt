@@ -1,6 +1,6 @@
 // Microticks: times, which are counted from the start of a cycle, and signed numbers, which are deviations and terms.
 ghost use mathlib.Core.Path.{_≡_};
-ghost use Rattle.correction.specs.Microtick.{aboveTimeLimit, isDeviation, held};
+ghost use Rattle.correction.specs.Microtick.{timeLimit, aboveTimeLimit, lowestDeviation, highestDeviation, isDeviation, held};
 
 pub struct Microtick(pub u32);
 
@@ -9,6 +9,13 @@ pub struct SignedMicrotick(pub i32);
 impl Microtick {
     // The latest time that is accepted.
     pub const LIMIT: u32 = 1_280_000;
+
+    // A contract can't name a constant. This returns it, and so holds it to its rule, as the next two do with theirs.
+    fn limit() -> u32
+        ensures { λ r. ⌜ r ≡ timeLimit ⌝ }
+    {
+        Microtick::LIMIT
+    }
 
     // Refusal 14.
     pub fn is_above_limit(self) -> bool
@@ -22,6 +29,18 @@ impl SignedMicrotick {
     pub const LOWEST_DEVIATION: i32 = -1_280_510;
 
     pub const HIGHEST_DEVIATION: i32 = 1_280_000;
+
+    fn lowest_deviation() -> i32
+        ensures { λ r. ⌜ r ≡ lowestDeviation ⌝ }
+    {
+        SignedMicrotick::LOWEST_DEVIATION
+    }
+
+    fn highest_deviation() -> i32
+        ensures { λ r. ⌜ r ≡ highestDeviation ⌝ }
+    {
+        SignedMicrotick::HIGHEST_DEVIATION
+    }
 
     // Whether it lies in the range of deviations.
     pub fn is_deviation(self) -> bool

@@ -9,6 +9,13 @@ use crate::microtick::SignedMicrotick;
 // The most IDs that a list holds: the highest value of field 4.
 pub const MOST_IDS: usize = 15;
 
+// A contract can't name a constant. This returns it, and so holds it to its rule.
+fn most_ids() -> usize
+    ensures { λ r. ⌜ r ≡ mostIds ⌝ }
+{
+    MOST_IDS
+}
+
 // The values that a midpoint is taken of: the first `count` numbers. There is room for this node's own zero behind them.
 pub struct Values {
     pub numbers: [i32; midpoint::MOST],

@@ -1,13 +1,11 @@
 // Frames read from bytes and written into them (document 01, "Frame layout").
 //
 // Entries: `read` and `payload` on a channel number and bytes, `write` on a channel number, fields, payload and lent output.
-// For the crates above: `read_on` for a channel that is known to be one, and `part` for a frame that has been read already. What a
-// header is stands in the crate `header`.
+// For the crates above: `read_on` for a channel that is known to be one. What a header is stands in the crate `header`.
 mod reader;
 mod writer;
 
 pub use reader::Reading;
-pub use reader::part;
 pub use reader::payload;
 pub use reader::read;
 pub use reader::read_on;

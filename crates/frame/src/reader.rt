@@ -127,8 +127,9 @@ pub fn payload(channel: u8, bytes: &[u8]) -> &[u8]
     part(read(channel, bytes), bytes)
 }
 
-// The payload of bytes that have been read already, by what reading answered.
-pub fn part(reading: Reading, bytes: &[u8]) -> &[u8]
+// The payload of bytes that have been read already, by what reading answered. It does not look whether the answer is that of these
+// bytes, and so is not for callers outside.
+fn part(reading: Reading, bytes: &[u8]) -> &[u8]
     ensures { λ r. ⌜ PartSays reading (now (bytes .entry)) (now r) ⌝ }
     ensures { λ r. ⌜ PartLies reading (now (bytes .entry)) (ptr (bytes .entry)) (ptr r) ⌝ }
 {

@@ -13,7 +13,7 @@ use Rattle.frame.specs.declared.writer.Writing.{Writing}
 use Rattle.frame.specs.declared.writer.Writing.the-variants as writing
 use Rattle.frame.specs.Read as read
 use Rattle.frame.specs.Write as write
-use Rattle.frame_claims.specs.Answers.{ReadOne, PayloadOne, WriteOne, ReadInOrder, WriteInOrder, RefusedUnchanged, RefusedEmpty}
+use Rattle.frame_claims.specs.Answers.{ReadOne, ReadOnOne, PayloadOne, WriteOne, ReadInOrder, WriteInOrder, RefusedUnchanged, RefusedEmpty}
 
 -- ---- one answer
 
@@ -37,8 +37,14 @@ reading-by reading.IdZero = refl
 reading-by reading.StartupWithoutSync = refl
 reading-by reading.FrameChecksumDiffers = refl
 
+one-reading : (t : read.Told) (r s : Reading) → read.told r ≡ t → read.told s ≡ t → r ≡ s
+one-reading t r s hr hs = sym (reading-by r) ∙ ap readingBy (hr ∙ sym hs) ∙ reading-by s
+
 pub read-one : ReadOne
-read-one channel bytes r s hr hs = sym (reading-by r) ∙ ap readingBy (hr ∙ sym hs) ∙ reading-by s
+read-one channel bytes r s hr hs = one-reading _ r s hr hs
+
+pub read-on-one : ReadOnOne
+read-on-one channel bytes r s hr hs = one-reading _ r s hr hs
 
 pub payload-one : PayloadOne
 payload-one channel bytes place p q at at′ hp lp hq lq = (hp ∙ sym hq, lp ∙ sym lq)

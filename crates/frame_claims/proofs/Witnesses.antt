@@ -28,7 +28,7 @@ use Rattle.frame.specs.Write.{headerOf, frameBytes, over, WriteSays}
 use Rattle.frame.proofs.OverLaws.{length-over}
 use Rattle.frame.proofs.WriteLaws.{length-frame}
 use Rattle.frame_claims.specs.Damage.{BothAccepted}
-use Rattle.frame_claims.specs.Exact.{FrameOn, fieldsOf, AcceptsFrames, PayloadOf, Wrote, Rewritten, Sent, Reread, RereadPayload}
+use Rattle.frame_claims.specs.Exact.{FrameOn, fieldsOf, AcceptsFrames, ReadingOf, PayloadOf, Wrote, Rewritten, Sent, Reread, RereadPayload}
 use Rattle.frame_claims.proofs.Answers.{read-one, write-one, written-answer, refused-unchanged}
 use Rattle.frame_claims.proofs.Exact.{given-part, frame-of, frame-none, frame-says, read-exactly, none-of-seven, front-frame, rest-is, write-gives-only, written-again}
 use Rattle.frame_claims.proofs.FrameLaws.{frame-size}
@@ -44,6 +44,13 @@ accepts-frames channel bytes r are says =
       λ e. (headerRead bytes, payloadRead bytes, frame-of channel bytes are (sym number ∙ eqb-true (read.told r .number) 0 e)),
       λ f. eq-eqb (read.told r .number) 0 (number ∙ frame-none channel bytes (f .0) (f .1) (f .2)),
     )
+
+-- with the part that belongs to these bytes
+pub reading-of : (channel : ℕ) (bytes : List ℕ) (r : Reading) → AreBytes bytes → ReadSays channel bytes r → ReadingOf channel bytes r
+reading-of channel bytes r are says header =
+    let part = read.partRule (first (read.refusals channel bytes)) bytes in
+    let exactly = read-exactly channel bytes r part are says refl header in
+    (λ e. (part, exactly part .0 (e, refl)), λ f. exactly (f .0) .1 (f .1) .0)
 
 pub never-both : (bytes : List ℕ) (r s : Bool) → AcceptsFrames 0 bytes r → r ≡ true → AcceptsFrames 1 bytes s → s ≡ false
 unfolding channelOf

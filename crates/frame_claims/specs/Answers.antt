@@ -9,7 +9,8 @@ use Rattle.header.specs.declared.Fields.{Fields}
 use Rattle.frame.specs.declared.reader.Reading.{Reading}
 use Rattle.frame.specs.declared.writer.Writing.{Writing}
 use Rattle.frame.specs.Read as read
-use Rattle.frame.specs.Read.{ReadSays, PayloadSays, PayloadLies}
+use Rattle.checksum.specs.declared.Channel.{Channel}
+use Rattle.frame.specs.Read.{ReadSays, ReadOnSays, PayloadSays, PayloadLies}
 use Rattle.frame.specs.Write as write
 use Rattle.frame.specs.Write.{WriteSays}
 
@@ -17,6 +18,10 @@ use Rattle.frame.specs.Write.{WriteSays}
 
 abbrev pub ReadOne : Type 0
 ReadOne = (channel : ℕ) (bytes : List ℕ) (r s : Reading) → ReadSays channel bytes r → ReadSays channel bytes s → r ≡ s
+
+-- The same of reading on a channel that is known to be one.
+abbrev pub ReadOnOne : Type 0
+ReadOnOne = (channel : Channel) (bytes : List ℕ) (r s : Reading) → ReadOnSays channel bytes r → ReadOnSays channel bytes s → r ≡ s
 
 -- The part of a payload, and the place where it lies.
 abbrev pub PayloadOne : Type 0

@@ -98,6 +98,10 @@ WriteThenRead =
 abbrev pub AcceptsFrames : ℕ → List ℕ → Bool → Type 0
 AcceptsFrames channel bytes r = (r ≡ true) ↔ IsFrame channel bytes
 
+-- `reading_of`: it is accepted with a header exactly when the bytes are a frame with that header.
+abbrev pub ReadingOf : ℕ → List ℕ → Reading → Type 0
+ReadingOf channel bytes r = (header : Header) → (r ≡ Accepted header) ↔ (payload : List ℕ) × FrameOn channel bytes header payload
+
 -- `payload_of`: of a frame its payload, and of any other bytes nothing.
 pub record PayloadOf (channel : ℕ) (bytes part : List ℕ) : Type 0 where
   pub frame : (header : Header) (payload : List ℕ) → FrameOn channel bytes header payload → part ≡ payload

@@ -6,7 +6,7 @@ ghost use Rattle.refusal.specs.Refusal.{InOrder};
 ghost use Rattle.frame.specs.Read.{refusals as read·refusals};
 ghost use Rattle.frame.specs.Write.{refusals as write·refusals};
 ghost use Rattle.frame_claims.specs.Damage.{BothAccepted};
-ghost use Rattle.frame_claims.specs.Exact.{fieldsOf, AcceptsFrames, PayloadOf, Wrote, Rewritten, Sent, Reread, RereadPayload};
+ghost use Rattle.frame_claims.specs.Exact.{fieldsOf, AcceptsFrames, ReadingOf, PayloadOf, Wrote, Rewritten, Sent, Reread, RereadPayload};
 use frame::Reading;
 use header::Fields;
 use header::Header;
@@ -31,6 +31,13 @@ pub fn accepts(channel: u8, bytes: &[u8]) -> bool
     ensures { λ r. ⌜ AcceptsFrames channel (now (bytes .entry)) r ⌝ }
 {
     frame::read(channel, bytes).number() == 0
+}
+
+// What is read: exactly the header of a frame.
+pub fn reading_of(channel: u8, bytes: &[u8]) -> Reading
+    ensures { λ r. ⌜ ReadingOf channel (now (bytes .entry)) r ⌝ }
+{
+    frame::read(channel, bytes)
 }
 
 // The payload of a frame, and of any other bytes an empty part.

@@ -6,7 +6,7 @@
 ghost use mathlib.Core.Path.{_≡_};
 ghost use Prim.Native.Nat.{_<_, _^_};
 ghost use Rattle.division.specs.Bits.{bits, bit as Bits·bit};
-ghost use Rattle.header.specs.Layout.{wholeHeader, headerChecksumOf, headerIn};
+ghost use Rattle.header.specs.Layout.{mostWords, wholeHeader, headerChecksumOf, headerIn, noHeader};
 ghost use Rattle.header.specs.Refusals.{notAnId, cycleTooHigh, startupWithoutSync};
 
 // A frame ID, which is the number of the slot that the frame is sent in.
@@ -56,6 +56,19 @@ impl Header {
         checksum: 0,
         cycle: Cycle(0),
     };
+
+    // A contract can't name a constant. These two return one each, and so hold it to its rule.
+    fn most_words() -> u8
+        ensures { λ r. ⌜ r ≡ mostWords ⌝ }
+    {
+        Header::MOST_WORDS
+    }
+
+    fn none() -> Header
+        ensures { λ r. ⌜ r ≡ noHeader ⌝ }
+    {
+        Header::NONE
+    }
 
     // The header checksum that belongs to the other fields, whatever stands in its own.
     pub fn checksum_due(self) -> u16

@@ -10,18 +10,18 @@ infix 70 _when_
 pub data Line : Type 0 where
   _when_ : ℕ → Bool → Line
 
--- The number of the first line whose condition holds. 0, which is no refusal, where none does.
-unfoldable pub first : List Line → ℕ
-first [] = 0
-first (n when true ∷ l) = n
-first (n when false ∷ l) = first l
-
 -- What comes back beside a number: one thing where nothing is refused, another where something is
 -- ("A refusal returns its number only").
 module _ {ℓ} {A : Type ℓ} where
   abbrev pub ifAccepted : ℕ → A → A → A
   ifAccepted zero this other = this
   ifAccepted (suc n) this other = other
+
+-- The number of the first line whose condition holds. 0, which is no refusal, where none does.
+unfoldable pub first : List Line → ℕ
+first [] = 0
+first (n when true ∷ l) = n
+first (n when false ∷ l) = first l
 
 -- ---- the claim that each entry's number meets
 

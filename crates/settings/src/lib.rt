@@ -9,6 +9,13 @@ ghost use Rattle.settings.specs.Sheet.{fieldCount, within, noSettings, f
 // How many fields have a range.
 pub const FIELDS: usize = 11;
 
+// A contract can't name a constant. This returns it, and so holds it to its rule.
+fn field_count() -> usize
+    ensures { λ r. ⌜ r ≡ fieldCount ⌝ }
+{
+    FIELDS
+}
+
 pub struct Settings {
     // Field 1 stands first.
     pub fields: [u32; FIELDS],

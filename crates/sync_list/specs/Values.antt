@@ -1,6 +1,11 @@
 -- The values that the IDs of a list add to a midpoint (01, "Clock").
-use mathlib.Core.List.{List, [], _∷_, map}
-use lib.IntN.{ℤ}
+use Prim.Native.Nat.{ℕ, _-_}
+use mathlib.Core.Path.{_≡_}
+use mathlib.Core.List.{List, [], _∷_, _++_, map}
+use lib.IntN.{ℤ, pos}
+use lib.ListN.{length, drop, replicate}
+use Rattle.midpoint.specs.Midpoint.{mostValues}
+use Rattle.correction.specs.declared.term.Values.{Values}
 use Rattle.correction.specs.declared.value.Value.{Value}
 use Rattle.correction.specs.declared.value.Value.the-variants.{Absent, Is}
 use Rattle.correction.specs.Microtick.{whole}
@@ -29,3 +34,11 @@ rateValuesBy hold odd even = present (map (λ (row : Row). rateValueBy hold (dev
 
 abbrev pub rateValues : List Row → List Row → List ℤ
 rateValues = rateValuesBy whole
+
+-- Numbers in the array that a midpoint is taken of: as many zeros behind them as there is room for.
+abbrev pub inArray : List ℤ → Values
+inArray numbers = record { numbers = numbers ++ replicate (mostValues - length numbers) (pos 0); count = length numbers }
+
+-- Behind the first numbers of that array nothing has been laid yet.
+abbrev pub ZerosBehind : ℕ → List ℤ → Type 0
+ZerosBehind count numbers = drop count numbers ≡ replicate (mostValues - count) (pos 0)

@@ -1,6 +1,6 @@
 // The list of a cycle, and what a measurement makes of it.
 ghost use mathlib.Core.Path.{_≡_};
-ghost use Rattle.sync_list.specs.Lists.{empty as Lists·empty, listed as Lists·listed, listedCount, placeOf, rowIn, isMeasuredOn, isFullFor, recorded};
+ghost use Rattle.sync_list.specs.Lists.{rowCount, empty as Lists·empty, listed as Lists·listed, listedCount, placeOf, rowIn, isMeasuredOn, isFullFor, recorded};
 use crate::places;
 use crate::row::Measurement;
 use crate::row::Row;
@@ -9,6 +9,13 @@ use header::Slot;
 
 // How many rows there is room for.
 pub const ROWS: usize = correction::MOST_IDS;
+
+// A contract can't name a constant. This returns it, and so holds it to its rule.
+fn row_count() -> usize
+    ensures { λ r. ⌜ r ≡ rowCount ⌝ }
+{
+    ROWS
+}
 
 pub struct SyncList {
     pub rows: [Row; ROWS],

@@ -7,21 +7,26 @@ ghost use Rattle.midpoint.specs.Midpoint.{mostValues};
 ghost use Rattle.correction.specs.Microtick.{held};
 ghost use Rattle.correction.specs.Terms.{valuesIn};
 ghost use Rattle.sync_list.specs.Lists.{listed};
-ghost use Rattle.sync_list.specs.Values.{before, offsetValues, rateValuesBy};
+ghost use Rattle.sync_list.specs.Values.{before, offsetValues, rateValuesBy, inArray, ZerosBehind};
 use crate::list::SyncList;
 use crate::places;
 use crate::row::Row;
 use correction::Value;
 use correction::Values;
 
+// An array in which no number is laid yet.
+const NO_NUMBERS: [i32; midpoint::MOST] = [0; midpoint::MOST];
+
 impl SyncList {
-    // The offset value of each ID.
+    // The offset value of each ID, and zeros behind them. (The second promise follows from the first, and is what a term goes by. So
+    // it is with the rate values.)
     pub fn offset_values(self) -> Values
+        ensures { λ r. ⌜ r ≡ inArray (offsetValues (listed self)) ⌝ }
         ensures { λ r. ⌜ valuesIn r ≡ offsetValues (listed self) ⌝ }
     {
         let rows = self.rows;
         let listed = self.listed();
-        let mut numbers = [0i32; midpoint::MOST];
+        let mut numbers = NO_NUMBERS;
         let mut count: usize = 0;
         let mut i: usize = 0;
         while i < listed {
@@ -35,6 +40,7 @@ impl SyncList {
 
     // The rate value of each ID of this list, which is the odd one, that has one by the even list.
     pub fn rate_values(self, even: SyncList) -> Values
+        ensures { λ r. ⌜ r ≡ inArray (rateValuesBy held (listed self) (listed even)) ⌝ }
         ensures { λ r. ⌜ valuesIn r ≡ rateValuesBy held (listed self) (listed even) ⌝ }
     {
         let rows = self.rows;
@@ -42,7 +48,7 @@ impl SyncList {
         let even_rows = even.rows;
         let even_listed = even.listed();
         let even_ids = places::ids_of(even_rows);
-        let mut numbers = [0i32; midpoint::MOST];
+        let mut numbers = NO_NUMBERS;
         let mut count: usize = 0;
         let mut i: usize = 0;
         while i < listed {
@@ -63,9 +69,9 @@ impl SyncList {
 // Lays a value behind the first `count` numbers, where it is one, and answers how many there are then. (The proof of a function is
 // not told how long an array is that is lent to it, so the length is required and ensured.)
 fn lay(numbers: &mut [i32; midpoint::MOST], count: usize, value: Value) -> usize
-    requires { ⌜ (count < mostValues) × (length (now numbers) ≡ mostValues) ⌝ }
+    requires { ⌜ (count < mostValues) × (length (now numbers) ≡ mostValues) × ZerosBehind count (now numbers) ⌝ }
     ensures { λ r. ⌜ take r (now (numbers .exit)) ≡ take count (now (numbers .entry)) ++ before value [] ⌝ }
-    ensures { λ r. ⌜ (r ≤ suc count) × (length (now (numbers .exit)) ≡ mostValues) ⌝ }
+    ensures { λ r. ⌜ (r ≤ suc count) × (length (now (numbers .exit)) ≡ mostValues) × ZerosBehind r (now (numbers .exit)) ⌝ }
 {
     let Value::Is(x) = value else {
         return count;

@@ -5,8 +5,18 @@ use Rattle.clock_claims.proofs.closed.Tie as tie
 use Rattle.clock_claims.proofs.closed.Reads as reads
 use Rattle.clock_claims.proofs.closed.Lts as lts
 use Rattle.closing.proofs.close_cycle.Reads as close-cycle-reads
+use Rattle.numbers.proofs.Walk.{length-of-mapped}
+use Rattle.slot_claims.specs.Sheet.{TypedSettings}
+use Rattle.clock_claims.specs.Typed.{TypedList, TypedClock}
 use Rattle.clock_claims.proofs.Witnesses.{closed-well}
 use mir.Facts.{toZ-ofZ}
+
+typed : (c : tie.Start) → TypedClock (c .args .state)
+typed c =
+    let settings : TypedSettings (c .args .state .settings) = search needs in
+    let even : TypedList (c .args .state .even) = search (needs, length-of-mapped) in
+    let odd : TypedList (c .args .state .odd) = search (needs, length-of-mapped) in
+    record { settings = settings; even = even; odd = odd }
 
 close-cycle-requires : tie.Need-close-cycle-requires
 close-cycle-requires c κs = search needs
@@ -14,7 +24,7 @@ close-cycle-requires c κs = search needs
 returns : tie.Need-returns
 returns c =
     let s = c .before in
-    closed-well (s .args .state) (s .args .offset-control) (s .args .rate-control) (c .close-cycle .result)
+    closed-well (s .args .state) (s .args .offset-control) (s .args .rate-control) (c .close-cycle .result) (typed s)
     (rw (toZ-ofZ (s .fits .offset-control), toZ-ofZ (s .fits .rate-control)) at (c .close-cycle .ensures))
 
 pub closed-spec : {M : Type 1} → statement M

@@ -32,7 +32,7 @@ offset-term-requires c κs = search needs
 returns : tie.Need-returns
 returns c =
     let values : valuesIn (c .before .before .offset-values .result) ≡ offsetValues (listed (c .before .before .before .list-of .result)) =
-    c .before .before .offset-values .ensures in
+    c .before .before .offset-values .ensures .1 in
     rw (c .before .offset-limit .ensures, values, c .before .before .before .list-of .ensures, c .before .before .before .before .current-cycle .ensures)
     at (c .offset-term .ensures)
 

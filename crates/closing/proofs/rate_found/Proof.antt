@@ -52,7 +52,7 @@ returns-2 c =
     let term : c .rate-term .result
     ≡ rateTermBy held (rateValuesBy held (listed (s .args .clock .odd)) (listed (s .args .clock .even))) (s .args .clock .settings .«sends_sync») (s .args .clock .rate .0)
     (driftDamping (s .args .clock .settings)) (rateLimit (s .args .clock .settings)) =
-    rw (values .ensures, c .before .before .drift-damping .ensures, c .before .rate-limit .ensures) at (c .rate-term .ensures) in
+    rw (values .ensures .1, c .before .before .drift-damping .ensures, c .before .rate-limit .ensures) at (c .rate-term .ensures) in
     rw (odd-is (e .before) ∙ not-false (e .before .is-odd .result) (e .if1 .left)) (term ∙ rate-is-whole (s .args .clock) (s .pre))
 
 pub rate-found-spec : {M : Type 1} → statement M

@@ -9,6 +9,8 @@ use Rattle.clock.proofs.state.Clock.list_of.Reads as list-of-reads
 use Rattle.clock.proofs.state.Clock.current_cycle.Reads as current-cycle-reads
 use Rattle.clock.proofs.state.Clock.with_list.Reads as with-list-reads
 use Rattle.sync_list.proofs.list.SyncList.with.Reads as with-reads
+use mathlib.Core.Path.{_≡_}
+use Rattle.clock.specs.State.{withList}
 
 frame-of-requires : tie.Need-frame-of-requires
 frame-of-requires c κs = search needs
@@ -27,8 +29,11 @@ with-list-requires c κs = search needs
 
 returns : tie.Need-returns
 returns c =
+    let s : tie.Start = search needs in
+    let next-listed : c .with-list .result ≡ withList (c .before .before .before .current-cycle .result) (c .before .with .result) (s .args .clock) =
+    c .with-list .ensures in
     rw (c .before .with .ensures, c .before .before .list-of .ensures, c .before .before .before .current-cycle .ensures, c .before .before .before .before .frame-of .ensures)
-    at (c .with-list .ensures)
+    at next-listed
 
 pub measured-on-spec : {M : Type 1} → statement M
 measured-on-spec =

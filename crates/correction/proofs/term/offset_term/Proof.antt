@@ -7,10 +7,13 @@ use Rattle.correction.proofs.term.offset_term.Lts as lts
 use Rattle.correction.proofs.term.Values.has_none.Reads as has-none-reads
 use Rattle.correction.proofs.term.Values.middle.Reads as middle-reads
 use Rattle.correction.proofs.term.limited.Reads as limited-reads
-use mathlib.Core.Path.{_≡_, sym, ap, _∙_}
+use mathlib.Core.Path.{_≡_, refl, sym, ap, _∙_}
 use mathlib.Core.Bool.{true, false}
-use Rattle.correction.specs.Terms.{isNone, valuesIn, limited}
-use Rattle.correction.proofs.TermLaws.{some-counted, offset-none, offset-some}
+use mathlib.Core.List.{List}
+use lib.IntN.{ℤ, pos}
+use Rattle.midpoint.specs.Midpoint.{midpoint}
+use Rattle.correction.specs.Terms.{isNone, valuesIn, withOwn, missing, limited, offsetTerm}
+use Rattle.correction.proofs.TermLaws.{some-counted, where-none, where-some}
 
 has-some : (c : tie.Else1) → isNone (valuesIn (c .before .before .args .values)) ≡ false
 has-some c = sym (c .before .has-none .ensures) ∙ c .if1 .left
@@ -22,7 +25,7 @@ returns : tie.Need-returns
 returns c =
     let a = c .before .before .args in
     let none : isNone (valuesIn (a .values)) ≡ true = sym (c .before .has-none .ensures) ∙ c .if1 .taken in
-    sym (offset-none (a .sends-sync) (a .limit) (valuesIn (a .values)) none)
+    where-none (λ (l : List ℤ). missing (pos 0) ≡ offsetTerm l (a .sends-sync) (a .limit)) (valuesIn (a .values)) none refl
 
 middle-requires : tie.Need-middle-requires
 middle-requires c κs = some-counted (c .before .before .args .values) (has-some c)
@@ -35,7 +38,10 @@ returns-2 c =
     let a = c .before .before .before .before .args in
     c .limited .ensures
     ∙ ap (limited (a .limit)) (c .before .middle .ensures)
-    ∙ sym (offset-some (a .sends-sync) (a .limit) (valuesIn (a .values)) (has-some (c .before .before)))
+    ∙ where-some (λ (l : List ℤ). limited (a .limit) (midpoint (withOwn (a .sends-sync) l)) ≡ offsetTerm l (a .sends-sync) (a .limit))
+    (valuesIn (a .values))
+    (has-some (c .before .before))
+    (λ v vs. refl)
 
 pub offset-term-spec : {M : Type 1} → statement M
 offset-term-spec =

@@ -9,7 +9,7 @@ use Rattle.correction.proofs.term.Values.has_none.Reads as has-none-rea
 use Rattle.correction.proofs.term.Values.middle.Reads as middle-reads
 use Rattle.correction.proofs.term.damped.Reads as damped-reads
 use Rattle.correction.proofs.term.limited.Reads as limited-reads
-use mathlib.Core.Path.{_≡_, sym, ap, _∙_}
+use mathlib.Core.Path.{_≡_, refl, sym, ap, _∙_}
 use mathlib.Core.Bool.{true, false}
 use lib.IntN.{ℤ, _+ℤ_}
 use mir.Syntax.{w32}
@@ -18,8 +18,10 @@ use mir.Facts.{toZ-ofZ}
 use Rattle.numbers.proofs.Wide.{wide-asked, wide-signed, wide-sum}
 use Rattle.midpoint.specs.Midpoint.{midpoint}
 use Rattle.correction.specs.Microtick.{held}
-use Rattle.correction.specs.Terms.{isNone, valuesIn, withOwn, damped, limited}
-use Rattle.correction.proofs.TermLaws.{some-counted, rate-none, rate-some}
+use mathlib.Core.List.{List, _∷_}
+use Rattle.numbers.proofs.Signed.{signed, add-sum}
+use Rattle.correction.specs.Terms.{isNone, valuesIn, withOwn, damped, limited, missing, rateTermBy}
+use Rattle.correction.proofs.TermLaws.{some-counted, where-none, where-some}
 
 has-some : (c : tie.Else1) → isNone (valuesIn (c .before .before .args .values)) ≡ false
 has-some c = sym (c .before .has-none .ensures) ∙ c .if1 .left
@@ -37,7 +39,10 @@ returns : tie.Need-returns
 returns c =
     let a = c .before .before .args in
     let none : isNone (valuesIn (a .values)) ≡ true = sym (c .before .has-none .ensures) ∙ c .if1 .taken in
-    sym (rate-none (a .sends-sync) (a .limit) held (a .stored .0) (a .damping) (valuesIn (a .values)) none)
+    where-none (λ (l : List ℤ). missing (a .stored .0) ≡ rateTermBy held l (a .sends-sync) (a .stored .0) (a .damping) (a .limit))
+    (valuesIn (a .values))
+    none
+    refl
 
 middle-requires : tie.Need-middle-requires
 middle-requires c κs = some-counted (c .before .before .args .values) (has-some c)
@@ -77,7 +82,16 @@ returns-2 c =
     ∙ ap (damped (a .damping)) (added ∙ ap (λ (x : ℤ). held (x +ℤ a .stored .0)) (m .middle .ensures)) in
     c .limited .ensures
     ∙ ap (limited (a .limit)) rate
-    ∙ sym (rate-some (a .sends-sync) (a .limit) held (a .stored .0) (a .damping) (valuesIn (a .values)) (has-some (m .before)))
+    ∙ where-some
+    (λ (l : List ℤ). limited (a .limit) (damped (a .damping) (held (midpoint (withOwn (a .sends-sync) l) +ℤ a .stored .0)))
+    ≡ rateTermBy held l (a .sends-sync) (a .stored .0) (a .damping) (a .limit))
+    (valuesIn (a .values))
+    (has-some (m .before))
+    (λ v vs.
+    let middle = midpoint (withOwn (a .sends-sync) (v ∷ vs)) in
+    let turned : middle +ℤ a .stored .0 ≡ a .stored .0 +ℤ middle =
+    omega (signed, add-sum middle (a .stored .0), add-sum (a .stored .0) middle) in
+    cc)
 
 pub rate-term-spec : {M : Type 1} → statement M
 rate-term-spec =

@@ -14,6 +14,7 @@ use lib.Seq.{take-suc-set}
 use mir.Syntax.{w32}
 use mir.Val.{SFits}
 use mir.Facts.{toZ-ofZ}
+use Rattle.sync_list.proofs.ValueLaws.{zeros-next}
 
 enum-known-value : tie.Need-enum-known-value
 enum-known-value c = search needs
@@ -24,7 +25,7 @@ enum-told c = search needs
 returns : tie.Need-returns
 returns c =
     let s = c .before .before in
-    (rw (c .enum-told .given .1) (sym (append-nil (take (s .args .count) (s .args .numbers .now)))), (omega arith, s .pre .1))
+    (rw (c .enum-told .given .1) (sym (append-nil (take (s .args .count) (s .args .numbers .now)))), (omega arith, s .pre .1, s .pre .2))
 
 mul-number : tie.Need-mul-number
 mul-number c = search needs
@@ -44,7 +45,7 @@ returns-2 c =
     let f : SFits w32 (x .0 .0 .0) = search needs in
     let room : count < length numbers = omega arith in (
       rw (x .1, toZ-ofZ f, add-one) (take-suc-set numbers count (x .0 .0 .0) room),
-      (omega arith, length-set numbers count _ ∙ s .pre .1),
+      (omega arith, length-set numbers count _ ∙ s .pre .1, rw add-one (zeros-next count numbers _ (s .pre .0) (s .pre .2))),
     )
 
 pub lay-spec : {M : Type 1} → statement M

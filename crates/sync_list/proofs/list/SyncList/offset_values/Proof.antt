@@ -21,10 +21,11 @@ use Rattle.sync_list.specs.declared.row.Row.{Row}
 use Rattle.sync_list.specs.Rows.{blank, deviationsOf}
 use Rattle.sync_list.specs.Lists.{rowCount, listed}
 use Rattle.sync_list.proofs.ListLaws.{listed-few, listed-rows}
-use Rattle.sync_list.proofs.ValueLaws.{Gathered, gather-next, gather-end}
+use Rattle.sync_list.proofs.ValueLaws.{Gathered, gather-next, gather-end, in-array}
 use borrow.Author.Tests.{le-leb}
+use Rattle.midpoint.specs.Midpoint.{mostValues}
 use Rattle.correction.specs.Terms.{mostIds}
-use Rattle.sync_list.specs.Values.{offsetValues}
+use Rattle.sync_list.specs.Values.{offsetValues, ZerosBehind}
 
 -- what a row adds
 abbrev offsetOf : Row → Value
@@ -32,7 +33,7 @@ offsetOf row = offsetValue (deviationsOf row)
 
 abbrev Inv-loop : tie.InvT-loop
 Inv-loop rows listed numbers₀ count₀ i₀ numbers count i =
-    (listed ≤ rowCount) × (i ≤ listed) × (count ≤ i) × (length numbers ≡ 16)
+    (listed ≤ rowCount) × (i ≤ listed) × (count ≤ i) × (length numbers ≡ mostValues) × ZerosBehind count numbers
     × Gathered offsetOf numbers count (take listed rows) (drop i (take listed rows))
 
 abbrev μ-loop : tie.MeasureT-loop
@@ -56,7 +57,7 @@ listed-requires : tie.Need-listed-requires Inv-loop μ-loop
 listed-requires c κs = search needs
 
 loop-holds : tie.Need-loop-holds Inv-loop μ-loop
-loop-holds c = (few c, omega arith, omega arith, refl, refl)
+loop-holds c = (few c, omega arith, omega arith, refl, refl, refl)
 
 mul-row : tie.Need-mul-row Inv-loop μ-loop
 mul-row c = omega arith
@@ -71,7 +72,7 @@ offset-value-requires : tie.Need-offset-value-requires Inv-loop μ-loop
 offset-value-requires c κs = search needs
 
 lay-requires : tie.Need-lay-requires Inv-loop μ-loop
-lay-requires c κs = (omega arith, omega arith)
+lay-requires c κs = (omega arith, omega arith, search needs)
 
 add-i : tie.Need-add-i Inv-loop μ-loop
 add-i c = omega arith
@@ -90,11 +91,12 @@ loop-again c =
     let later = drop (suc (l .i)) (take n rows) in
     let value : k .offset-value .result ≡ offsetOf row = k .offset-value .ensures ∙ ap offsetValue (k .before .deviations .ensures) in
     let g : Gathered offsetOf (l .numbers) (l .count) (take n rows) (row ∷ later) =
-    rw (rest (blank (record { 0 = 0 })) rows (l .i) n t (in-rows (k .before .before .before .before .before))) at (l .inv .4) in (
+    rw (rest (blank (record { 0 = 0 })) rows (l .i) n t (in-rows (k .before .before .before .before .before))) at (l .inv .5) in (
       l .inv .0,
       omega arith,
       omega arith,
       c .lay .ensures .1 .1,
+      c .lay .ensures .1 .2,
       rw add-one (gather-next offsetOf (l .numbers) (l .count) (take n rows) row later (c .lay .last .0) (c .lay .result) _ g value (c .lay .ensures .0)),
     )
 
@@ -104,11 +106,11 @@ returns c =
     let n = c .before .before .listed .result in
     let s = c .before .before .before .before .args .self in
     let g : Gathered offsetOf (l .numbers) (l .count) (take n (s .rows)) [] =
-    rw (rest-end (s .rows) (l .i) n (c .loop-test .left) (in-rows (c .before .before))) at (l .inv .4) in
+    rw (rest-end (s .rows) (l .i) n (c .loop-test .left) (in-rows (c .before .before))) at (l .inv .5) in
     let few-counted : l .count ≤ mostIds = omega arith in
-    rw (le-leb (l .count) mostIds few-counted)
-    (gather-end offsetOf (l .numbers) (l .count) (take n (s .rows)) g
-    ∙ ap offsetValues (are-listed (c .before .before)))
+    let values : take (l .count) (l .numbers) ≡ offsetValues (listed s) =
+    gather-end offsetOf (l .numbers) (l .count) (take n (s .rows)) g ∙ ap offsetValues (are-listed (c .before .before)) in
+    (in-array (l .count) (l .numbers) _ (l .inv .3) (omega arith) (l .inv .4) values, rw (le-leb (l .count) mostIds few-counted) values)
 
 pub offset-values-spec : {M : Type 1} → statement M
 offset-values-spec =

@@ -22,13 +22,14 @@ use Rattle.numbers.proofs.Walk.{rest, rest-end, came, length-of-mapped}
 use Rattle.correction.specs.declared.value.Value.{Value}
 use Rattle.correction.specs.Microtick.{held}
 use Rattle.correction.specs.Values.{rateValueBy}
+use Rattle.midpoint.specs.Midpoint.{mostValues}
 use Rattle.correction.specs.Terms.{mostIds}
 use Rattle.sync_list.specs.declared.row.Row.{Row}
 use Rattle.sync_list.specs.Rows.{blank, deviationsOf}
 use Rattle.sync_list.specs.Lists.{rowCount, listed, placeOf, rowIn, idOf}
-use Rattle.sync_list.specs.Values.{rateValuesBy}
+use Rattle.sync_list.specs.Values.{rateValuesBy, ZerosBehind}
 use Rattle.sync_list.proofs.ListLaws.{listed-few, listed-rows, ids-place, row-there, row-absent}
-use Rattle.sync_list.proofs.ValueLaws.{Gathered, gather-next, gather-end}
+use Rattle.sync_list.proofs.ValueLaws.{Gathered, gather-next, gather-end, in-array}
 
 -- what a row adds, by the rows of the even cycle
 abbrev valueBy : List Row → Row → Value
@@ -36,7 +37,7 @@ valueBy evens row = rateValueBy held (deviationsOf row) (deviationsOf (rowIn (ro
 
 abbrev Inv-loop : tie.InvT-loop
 Inv-loop rows listed even-rows even-listed even-ids numbers₀ count₀ i₀ numbers count i =
-    (listed ≤ rowCount) × (i ≤ listed) × (count ≤ i) × (length numbers ≡ 16)
+    (listed ≤ rowCount) × (i ≤ listed) × (count ≤ i) × (length numbers ≡ mostValues) × ZerosBehind count numbers
     × Gathered (valueBy (take even-listed even-rows)) numbers count (take listed rows) (drop i (take listed rows))
 
 abbrev μ-loop : tie.MeasureT-loop
@@ -107,7 +108,7 @@ ids-of-requires : tie.Need-ids-of-requires Inv-loop μ-loop
 ids-of-requires c κs = search needs
 
 loop-holds : tie.Need-loop-holds Inv-loop μ-loop
-loop-holds c = (few (c .before .before .before), omega arith, omega arith, refl, refl)
+loop-holds c = (few (c .before .before .before), omega arith, omega arith, refl, refl, refl)
 
 mul-row : tie.Need-mul-row Inv-loop μ-loop
 mul-row c = omega arith
@@ -142,7 +143,7 @@ rate-value-requires : tie.Need-rate-value-requires Inv-loop μ-loop
 rate-value-requires c κs = search needs
 
 lay-requires : tie.Need-lay-requires Inv-loop μ-loop
-lay-requires c κs = (omega arith, omega arith)
+lay-requires c κs = (omega arith, omega arith, search needs)
 
 add-i : tie.Need-add-i Inv-loop μ-loop
 add-i c = omega arith
@@ -165,11 +166,12 @@ loop-again c =
     let value : v .rate-value .result ≡ valueBy evens row =
     rw (v .before .before .deviations .ensures, v .before .deviations2 .ensures, even-row-is j) at (v .rate-value .ensures) in
     let g : Gathered (valueBy evens) (l .numbers) (l .count) (take n (a .self .rows)) (row ∷ later) =
-    rw (rest (blank (record { 0 = 0 })) (a .self .rows) (l .i) n t (in-rows (k .before .before .before))) at (l .inv .4) in (
+    rw (rest (blank (record { 0 = 0 })) (a .self .rows) (l .i) n t (in-rows (k .before .before .before))) at (l .inv .5) in (
       l .inv .0,
       omega arith,
       omega arith,
       c .lay .ensures .1 .1,
+      c .lay .ensures .1 .2,
       rw add-one (gather-next (valueBy evens) (l .numbers) (l .count) (take n (a .self .rows)) row later (c .lay .last .0) (c .lay .result) _ g value (c .lay .ensures .0)),
     )
 
@@ -181,12 +183,13 @@ returns c =
     let a = k .before .before .before .before .before .args in
     let evens = take (k .before .listed2 .result) (a .even .rows) in
     let g : Gathered (valueBy evens) (l .numbers) (l .count) (take n (a .self .rows)) [] =
-    rw (rest-end (a .self .rows) (l .i) n (c .loop-test .left) (in-rows (k .before .before .before))) at (l .inv .4) in
+    rw (rest-end (a .self .rows) (l .i) n (c .loop-test .left) (in-rows (k .before .before .before))) at (l .inv .5) in
     let few-counted : l .count ≤ mostIds = omega arith in
-    rw (le-leb (l .count) mostIds few-counted)
-    (gather-end (valueBy evens) (l .numbers) (l .count) (take n (a .self .rows)) g
+    let values : take (l .count) (l .numbers) ≡ rateValuesBy held (listed (a .self)) (listed (a .even)) =
+    gather-end (valueBy evens) (l .numbers) (l .count) (take n (a .self .rows)) g
     ∙ ap (λ (rows : List Row). rateValuesBy held rows evens) (are-listed (k .before .before .before))
-    ∙ ap (rateValuesBy held (listed (a .self))) (even-listed-are (k .before)))
+    ∙ ap (rateValuesBy held (listed (a .self))) (even-listed-are (k .before)) in
+    (in-array (l .count) (l .numbers) _ (l .inv .3) (omega arith) (l .inv .4) values, rw (le-leb (l .count) mostIds few-counted) values)
 
 pub rate-values-spec : {M : Type 1} → statement M
 rate-values-spec =
