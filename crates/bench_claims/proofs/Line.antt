@@ -6,14 +6,15 @@ use mathlib.Core.List.{List, [], _∷_, _++_}
 use native.Mathlib.Nat.{pow-le-pow-right}
 use native.Mathlib.Omega.{arith}
 use lib.Dec.{leb, lit<}
-use lib.ListN.{length, take, drop, length-append, length-take}
+use lib.ListN.{length, take, drop, replicate, length-append, length-take}
 use lib.Seq.{length-take-le, take-all}
 use borrow.Author.Tests.{le-ltb, lt-ltb, leb-true, leb-false}
 use Rattle.numbers.proofs.Truth.{both-true}
 use Rattle.numbers.proofs.Walk.{cases}
 use Rattle.refusal.specs.Refusal.{Line, _when_, first}
 use Rattle.refusal.proofs.FirstLaws.{first-skip, first-here}
-use Rattle.division.specs.Bits.{odd, bytesBits}
+use Rattle.division.specs.Bits.{odd, bits, number, bytesBits}
+use Rattle.division.specs.Division.{step, feed, checksum, exor, onlyIf}
 use Rattle.division.proofs.BitsLaws.{number-lt}
 use Rattle.checksum.specs.Channel.{notAChannel, channelOf}
 use Rattle.header.specs.declared.Header.{Header}
@@ -21,7 +22,8 @@ use Rattle.header.specs.Layout.{field, headerIn}
 use Rattle.frame.specs.Refusals.{tooShort, badSize}
 use Rattle.frame.specs.Read.{headerRead, refusals, refusalsOn, rule}
 use Rattle.bench_line.specs.Line.{refusalOf, acceptedWord, refusedWord, behindSpace, lineFeed, acceptedLine, refusedLine, lineBy, lineOf}
-use Rattle.bench_claims.specs.Line.{LineOne, NoInput, TooLong, FrontDecides, AtMost21}
+use Rattle.bench_line.specs.Decimal.{decimalWithin}
+use Rattle.bench_claims.specs.Line.{LineOne, NoInput, TooLong, FrontDecides, AtMost21, FrontExact, LongestExact}
 use Rattle.bench_claims.proofs.DecimalLaws.{decimal-short}
 
 pub line-one : LineOne
@@ -111,3 +113,22 @@ line-short (suc n) bytes h = refused-short (suc n) (omega arith)
 
 pub at-most-21 : AtMost21
 at-most-21 input = line-short (refusalOf input) (drop 1 input) (refusal-within input)
+
+-- ---- neither number can be smaller
+
+-- a frame on A with the highest ID and cycle and the longest payload, behind its channel byte
+longestFrame : List ℕ
+longestFrame = 0 ∷ 0x07 ∷ 0xFF ∷ 0xFE ∷ 0x4D ∷ 0x7F ∷ (replicate 254 0 ++ (0x38 ∷ 0x8F ∷ 0xC6 ∷ []))
+
+pub longest-exact : LongestExact
+unfolding longestFrame bits number bytesBits step feed checksum exor onlyIf notAChannel channelOf first headerIn decimalWithin
+longest-exact = (longestFrame, refl)
+
+-- the same frame with a byte behind it, which is the last of the front
+pub front-exact : FrontExact
+unfolding longestFrame bits number bytesBits step feed checksum exor onlyIf notAChannel channelOf first headerIn decimalWithin
+front-exact =
+    let input = longestFrame ++ (0 ∷ []) in
+    let cut : length (lineOf (take 263 input)) ≡ 21 = refl in
+    let whole : length (lineOf input) ≡ 10 = refl in
+    (input, λ e. let same = ap length e in omega arith)

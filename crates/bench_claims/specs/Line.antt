@@ -1,5 +1,5 @@
 -- Claims about the bench program's line, of any result that the statement of `bench_line::line` allows and of the rule that it cites.
-use Prim.Native.Nat.{ℕ, _≤_, _<_}
+use Prim.Native.Nat.{ℕ, _-_, _≤_, _<_}
 use mathlib.Core.Path.{_≡_}
 use mathlib.Core.Bool.{cond}
 use mathlib.Core.List.{List, [], _∷_}
@@ -30,3 +30,10 @@ FrontDecides = (input : List ℕ) → lineOf (take front input) ≡ lineOf input
 -- The longest line is `accepted 2047 63 127` with its line feed.
 abbrev pub AtMost21 : Type 0
 AtMost21 = (input : List ℕ) → length (lineOf input) ≤ longest
+
+-- Neither number can be smaller: some input is told apart by the last byte of its front, and some line has that many bytes.
+abbrev pub FrontExact : Type 0
+FrontExact = (input : List ℕ) × (lineOf (take (front - 1) input) ≡ lineOf input → ⊥)
+
+abbrev pub LongestExact : Type 0
+LongestExact = (input : List ℕ) × (length (lineOf input) ≡ longest)

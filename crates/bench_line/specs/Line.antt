@@ -24,6 +24,11 @@ refusalOf (channel ∷ bytes) = first (refusals channel bytes)
 abbrev pub readInput : List ℕ → Told
 readInput input = rule (refusalOf input) (drop 1 input)
 
+-- How many bytes of an input tell its line: the channel byte, the 262 bytes of the longest frame, and one more ("more than 263 input
+-- bytes").
+abbrev pub front : ℕ
+front = 1 + 262 + 1
+
 -- ---- the line
 
 -- The words, as the codes of their characters.
@@ -53,11 +58,6 @@ lineBy t = ifAccepted (t .number) (acceptedLine (t .header)) (refusedLine (t .nu
 
 abbrev pub lineOf : List ℕ → List ℕ
 lineOf input = lineBy (readInput input)
-
--- How many bytes of an input tell its line: the channel byte, the 262 bytes of the longest frame, and one more ("more than 263 input
--- bytes").
-abbrev pub front : ℕ
-front = 1 + 262 + 1
 
 -- How many bytes the longest line has: `accepted 2047 63 127`, and its line feed.
 abbrev pub longest : ℕ

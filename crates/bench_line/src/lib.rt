@@ -17,7 +17,7 @@ pub const LONGEST: usize = 21;
 // How much of an input tells its line: a channel byte, the 262 bytes of the longest frame, and one more. What lies behind changes no line.
 pub const FRONT: usize = 264;
 
-// A contract can't name a constant. These two return one each, and so hold it to its rule.
+// Each returns a constant, which no contract can name, and so holds it to its rule (DECISIONS 108).
 fn longest() -> usize
     ensures { λ r. ⌜ r ≡ Line·longest ⌝ }
 {

@@ -31,7 +31,7 @@ impl Channel {
 
     pub const START_B: u32 = 0xAB_CDEF;
 
-    // A contract can't name a constant. These two return one each, and so hold it to 01's value.
+    // Each returns a constant, which no contract can name, and so holds it to its rule (DECISIONS 108).
     fn start_a() -> u32
         ensures { λ r. ⌜ r ≡ startOf Channel·A ⌝ }
     {

@@ -47,17 +47,11 @@ module _ (l : List ℤ) (n : ℕ) (few : n ≤ mostIds) (long : length l ≡ mos
 -- ---- the terms
 
 -- what holds of no values, or of values that are there, by whether there are any
-module _ (P : List ℤ → Type 0) (l : List ℤ) where
-  pub where-none : isNone l ≡ true → P [] → P l
-  where-none e p = none l e
-    where
-      none : (m : List ℤ) → isNone m ≡ true → P m
-      none [] e = p
-      none (v ∷ vs) e = absurd (false≢true e)
+module _ (P : List ℤ → Type 0) where
+  pub where-none : (l : List ℤ) → isNone l ≡ true → P [] → P l
+  where-none [] e p = p
+  where-none (v ∷ vs) e p = absurd (false≢true e)
 
-  pub where-some : isNone l ≡ false → ((v : ℤ) (vs : List ℤ) → P (v ∷ vs)) → P l
-  where-some e p = some l e
-    where
-      some : (m : List ℤ) → isNone m ≡ false → P m
-      some [] e = absurd (false≢true (sym e))
-      some (v ∷ vs) e = p v vs
+  pub where-some : (l : List ℤ) → isNone l ≡ false → ((v : ℤ) (vs : List ℤ) → P (v ∷ vs)) → P l
+  where-some [] e p = absurd (false≢true (sym e))
+  where-some (v ∷ vs) e p = p v vs

@@ -10,7 +10,7 @@ impl Microtick {
     // The latest time that is accepted.
     pub const LIMIT: u32 = 1_280_000;
 
-    // A contract can't name a constant. This returns it, and so holds it to its rule, as the next two do with theirs.
+    // Returns the constant, which no contract can name, and so holds it to its rule (DECISIONS 108).
     fn limit() -> u32
         ensures { λ r. ⌜ r ≡ timeLimit ⌝ }
     {
@@ -30,6 +30,7 @@ impl SignedMicrotick {
 
     pub const HIGHEST_DEVIATION: i32 = 1_280_000;
 
+    // Each returns a constant, as above.
     fn lowest_deviation() -> i32
         ensures { λ r. ⌜ r ≡ lowestDeviation ⌝ }
     {

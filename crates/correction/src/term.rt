@@ -9,7 +9,7 @@ use crate::microtick::SignedMicrotick;
 // The most IDs that a list holds: the highest value of field 4.
 pub const MOST_IDS: usize = 15;
 
-// A contract can't name a constant. This returns it, and so holds it to its rule.
+// Returns the constant, which no contract can name, and so holds it to its rule (DECISIONS 108).
 fn most_ids() -> usize
     ensures { λ r. ⌜ r ≡ mostIds ⌝ }
 {

@@ -57,7 +57,7 @@ impl Header {
         cycle: Cycle(0),
     };
 
-    // A contract can't name a constant. These two return one each, and so hold it to its rule.
+    // Each returns a constant, which no contract can name, and so holds it to its rule (DECISIONS 108).
     fn most_words() -> u8
         ensures { λ r. ⌜ r ≡ mostWords ⌝ }
     {

@@ -9,7 +9,7 @@ ghost use Rattle.settings.specs.Sheet.{fieldCount, within, noSettings, f
 // How many fields have a range.
 pub const FIELDS: usize = 11;
 
-// A contract can't name a constant. This returns it, and so holds it to its rule.
+// Returns the constant, which no contract can name, and so holds it to its rule (DECISIONS 108).
 fn field_count() -> usize
     ensures { λ r. ⌜ r ≡ fieldCount ⌝ }
 {

@@ -10,7 +10,7 @@ use header::Slot;
 // How many rows there is room for.
 pub const ROWS: usize = correction::MOST_IDS;
 
-// A contract can't name a constant. This returns it, and so holds it to its rule.
+// Returns the constant, which no contract can name, and so holds it to its rule (DECISIONS 108).
 fn row_count() -> usize
     ensures { λ r. ⌜ r ≡ rowCount ⌝ }
 {

@@ -89,6 +89,7 @@ returns-2 c =
     (has-some (m .before))
     (λ v vs.
     let middle = midpoint (withOwn (a .sends-sync) (v ∷ vs)) in
+    -- in whichever order the rule adds the two
     let turned : middle +ℤ a .stored .0 ≡ a .stored .0 +ℤ middle =
     omega (signed, add-sum middle (a .stored .0), add-sum (a .stored .0) middle) in
     cc)
