@@ -7,6 +7,7 @@ use native.Mathlib.Omega.{arith}
 use lib.Dec.{eqb}
 use lib.ListN.{length}
 use borrow.Author.Tests.{eq-eqb}
+use Rattle.numbers.proofs.Truth.{both-true}
 use Rattle.division.specs.Bits.{bits}
 use Rattle.division.specs.Division.{exor, step, feed}
 use Rattle.division.specs.Polynomial.{last, EndsInOne}
@@ -47,10 +48,6 @@ feed-zeros p n (true ∷ d) e h = absurd (omega arith)
 not-zeros : (r : List Bool) (n : ℕ) → not (eqb (ones r) 0) ≡ true → r ≡ zeros n → ⊥
 not-zeros r n h e = false≢true (ap not (sym (eq-eqb (ones r) 0 (ap ones e ∙ ones-zeros n))) ∙ h)
 
-both : (a b : Bool) → a && b ≡ true → (a ≡ true) × (b ≡ true)
-both true b h = (refl, h)
-both false b h = absurd (false≢true h)
-
 module _ (p : List Bool) (hp : last p ≡ true) where
   -- zeros alone bring no register to zero but that of zeros
   silent : (r d : List Bool) → length r ≡ length p → ones d ≡ 0 → feed p r d ≡ zeros (length p) → r ≡ zeros (length p)
@@ -67,10 +64,10 @@ module _ (p : List Bool) (hp : last p ≡ true) where
   never-zero [] (suc n) (suc c) r l h b e q = omega arith
   never-zero (false ∷ d) (suc n) (suc c) r l h b e q =
       never-zero d n (suc c) (step p r false) (length-step p r false l)
-      (both (neverZero p n c (step p r true)) (neverZero p n (suc c) (step p r false)) h .1) (omega arith) (omega arith) q
+      (both-true (neverZero p n c (step p r true)) (neverZero p n (suc c) (step p r false)) h .1) (omega arith) (omega arith) q
   never-zero (true ∷ d) (suc n) (suc c) r l h b e q =
       never-zero d n c (step p r true) (length-step p r true l)
-      (both (neverZero p n c (step p r true)) (neverZero p n (suc c) (step p r false)) h .0) (omega arith) (omega arith) q
+      (both-true (neverZero p n c (step p r true)) (neverZero p n (suc c) (step p r false)) h .0) (omega arith) (omega arith) q
 
   -- from a register of zeros: nothing happens up to the first 1, and that one leaves the polynomial
   from-zeros : (d : List Bool) (n c : ℕ) → 0 < length p → neverZero p n c p ≡ true → length d ≤ suc n → ones d ≡ suc c

@@ -136,10 +136,7 @@ sfits-parts {w} {z} f = mag-parts z (2 ^ hbits w) (f .sfits)
 pub sfits-by : {w : Width} {z : ℤ} → up z < dn z + 2 ^ hbits w → dn z ≤ up z + 2 ^ hbits w → SFits w z
 sfits-by {w} {z} h k = record { sfits = parts-mag z (2 ^ hbits w) h k }
 
--- what an addition, a subtraction and a halving ask, from the parts of their operands
-pub add-fits : {w : Width} (a b : ℤ) → (up a + up b < dn a + dn b + 2 ^ hbits w) × (dn a + dn b ≤ up a + up b + 2 ^ hbits w) → SFits w (a +ℤ b)
-add-fits {w} a b h = sfits-by (omega (arith, add-sum a b)) (omega (arith, add-sum a b))
-
+-- what a subtraction and a halving ask, from the parts of their operands
 pub sub-fits : {w : Width} (a b : ℤ) → (up a + dn b < dn a + up b + 2 ^ hbits w) × (dn a + up b ≤ up a + dn b + 2 ^ hbits w) → SFits w (a -ℤ b)
 sub-fits {w} a b h = sfits-by (omega (arith, sub-sums a b)) (omega (arith, sub-sums a b))
 
@@ -147,14 +144,6 @@ pub half-fits : {w : Width} {z : ℤ} → SFits w z → SFits w (quotZ z (pos 2)
 half-fits {w} {z} f =
     let h = sfits-parts f in
     sfits-by (omega (arith, up-half z, dn-half z, one-sided z)) (omega (arith, up-half z, dn-half z, one-sided z))
-
--- ---- a cast of a number that is not negative to an unsigned type
-pub not-negative : (z : ℤ) → dn z ≤ up z → T (nonNeg z)
-not-negative (pos n) h = tt
-not-negative (negsuc n) h = absurd (omega arith)
-
-pub cast-fits : {w w′ : Width} {z : ℤ} → T (ltb (hbits w) (bits w′)) → SFits w z → dn z ≤ up z → T (nonNeg z) × Fits w′ (natAbs z)
-cast-fits {w} {w′} {z} t f h = (not-negative z h, fits-natAbs t f)
 
 -- ---- what `omega` reads and proves facts on ℤ by: tests, equations, and the range of a width
 

@@ -47,11 +47,3 @@ module _ (id : ℕ) where
           cases (ltb a b)
           (λ t. rw t (lt-ltb (suc a) (suc b) (omega (arith, ltb-true a b t))))
           (λ t. rw t (le-ltb (suc a) (suc b) (omega (arith, ltb-false a b t))))
-
-  -- and it stands there
-  pub place-has : (xs : List ℕ) (d : ℕ) → placeAmong id xs < length xs → getD xs (placeAmong id xs) d ≡ id
-  place-has [] d h = absurd (omega arith)
-  place-has (x ∷ xs) d h =
-      cases (eqb x id)
-      (λ e. rw (place-here x xs e) (eqb-true x id e))
-      (λ e. rw (place-later x xs e) (place-has xs d (le-of-suc-le-suc (rw (place-later x xs e) at h))))

@@ -9,24 +9,6 @@ use Rattle.bench_line.specs.Line.{LineSays}
 use Rattle.bench.proofs.AnswerLaws.{answers}
 use Rattle.bench.proofs.answer.Statement.{statement}
 use Rattle.bench.proofs.answer.Tie as tie
-use Rattle.bench.proofs.answer.Reads as reads
-use Rattle.bench.proofs.answer.Lts as lts
-use Rattle.bench_line.proofs.line.Reads as line-reads
-
-sub-line : tie.Need-sub-line
-sub-line c = search needs
-
-part-line-start : tie.Need-part-line-start
-part-line-start c = search needs
-
-part-line-end : tie.Need-part-line-end
-part-line-end c = search needs
-
-line-requires : tie.Need-line-requires
-line-requires c κs = search needs
-
-same-length : tie.Need-same-length
-same-length c = search needs
 
 returns : tie.Need-returns
 returns c =
@@ -40,4 +22,4 @@ returns c =
 
 pub answer-spec : {M : Type 1} → statement M
 answer-spec =
-    tie.close (tie.spec sub-line part-line-start part-line-end line-requires same-length returns)
+    tie.close (tie.spec (λ c. search needs) (λ c. search needs) (λ c. search needs) (λ c κs. search needs) (λ c. search needs) returns)

@@ -6,15 +6,6 @@ use denote.Ref.{now}
 use Rattle.bench_claims.proofs.Witnesses.{room-for-any}
 use Rattle.bench_claims.proofs.has_room.Statement.{statement}
 use Rattle.bench_claims.proofs.has_room.Tie as tie
-use Rattle.bench_claims.proofs.has_room.Reads as reads
-use Rattle.bench_claims.proofs.has_room.Lts as lts
-use Rattle.bench_line.proofs.line.Reads as line-reads
-
-slice-aggregate-line : tie.Need-slice-aggregate-line
-slice-aggregate-line c = search needs
-
-line-requires : tie.Need-line-requires
-line-requires c κs = search needs
 
 returns : tie.Need-returns
 returns c =
@@ -22,4 +13,4 @@ returns c =
     room-for-any (now (c .before .before .before .before .args .input)) (replicate 21 0) (line .last .1 .0) (line .result) refl (line .ensures .0)
 
 pub has-room-spec : {M : Type 1} → statement M
-has-room-spec = tie.close (tie.spec slice-aggregate-line line-requires returns)
+has-room-spec = tie.close (tie.spec (λ c. search needs) (λ c κs. search needs) returns)

@@ -4,33 +4,6 @@ use denote.Ref.{now}
 use Rattle.bench_claims.proofs.Witnesses.{says-by-front}
 use Rattle.bench_claims.proofs.line_by_front.Statement.{statement}
 use Rattle.bench_claims.proofs.line_by_front.Tie as tie
-use Rattle.bench_claims.proofs.line_by_front.Reads as reads
-use Rattle.bench_claims.proofs.line_by_front.Lts as lts
-use Rattle.bench_line.proofs.line.Reads as line-reads
-
-line-requires : tie.Need-line-requires
-line-requires c κs = search needs
-
-same-length : tie.Need-same-length
-same-length c = search needs
-
-returns : tie.Need-returns
-returns c = search needs
-
-sub-line : tie.Need-sub-line
-sub-line c = search needs
-
-part-line-start : tie.Need-part-line-start
-part-line-start c = search needs
-
-part-line-end : tie.Need-part-line-end
-part-line-end c = search needs
-
-line-requires-2 : tie.Need-line-requires-2
-line-requires-2 c κs = search needs
-
-same-length-2 : tie.Need-same-length-2
-same-length-2 c = search needs
 
 returns-2 : tie.Need-returns-2
 returns-2 c =
@@ -42,12 +15,12 @@ pub line-by-front-spec : {M : Type 1} → statement M
 line-by-front-spec =
     tie.close
     (tie.spec
-    line-requires
-    same-length
-    returns
-    sub-line
-    part-line-start
-    part-line-end
-    line-requires-2
-    same-length-2
+    (λ c κs. search needs)
+    (λ c. search needs)
+    (λ c. search needs)
+    (λ c. search needs)
+    (λ c. search needs)
+    (λ c. search needs)
+    (λ c κs. search needs)
+    (λ c. search needs)
     returns-2)

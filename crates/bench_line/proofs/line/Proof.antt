@@ -11,20 +11,6 @@ use Rattle.bench_line.specs.Line.{lineBy, lineOf}
 use Rattle.bench_line.proofs.LineLaws.{line-left-out, line-laid}
 use Rattle.bench_line.proofs.line.Statement.{statement}
 use Rattle.bench_line.proofs.line.Tie as tie
-use Rattle.bench_line.proofs.line.Reads as reads
-use Rattle.bench_line.proofs.line.Lts as lts
-use Rattle.bench_line.proofs.put_line.Reads as put-line-reads
-use Rattle.bench_line.proofs.read_input.Reads as read-input-reads
-use Rattle.bytes.proofs.copy.Reads as copy-reads
-
-slice-aggregate-put-line : tie.Need-slice-aggregate-put-line
-slice-aggregate-put-line c = search needs
-
-read-input-requires : tie.Need-read-input-requires
-read-input-requires c κs = search needs
-
-put-line-requires : tie.Need-put-line-requires
-put-line-requires c κs = search needs
 
 returns : tie.Need-returns
 returns c =
@@ -34,21 +20,6 @@ returns c =
     let line = lineBy (told (read .result)) in
     let long : length line ≡ put .result = omega (arith, put .ensures .0 .0) in
     (line-left-out (now (a .input)) (now (a .output)) line (ap lineBy (read .ensures)) (rw long (c .if1 .taken)), omega arith)
-
-sub-copy : tie.Need-sub-copy
-sub-copy c = search needs
-
-part-copy-start : tie.Need-part-copy-start
-part-copy-start c = search needs
-
-part-copy-end : tie.Need-part-copy-end
-part-copy-end c = search needs
-
-copy-requires : tie.Need-copy-requires
-copy-requires c κs = search needs
-
-same-length : tie.Need-same-length
-same-length c = search needs
 
 returns-2 : tie.Need-returns-2
 returns-2 c =
@@ -67,13 +38,13 @@ pub line-spec : {M : Type 1} → statement M
 line-spec =
     tie.close
     (tie.spec
-    slice-aggregate-put-line
-    read-input-requires
-    put-line-requires
+    (λ c. search needs)
+    (λ c κs. search needs)
+    (λ c κs. search needs)
     returns
-    sub-copy
-    part-copy-start
-    part-copy-end
-    copy-requires
-    same-length
+    (λ c. search needs)
+    (λ c. search needs)
+    (λ c. search needs)
+    (λ c κs. search needs)
+    (λ c. search needs)
     returns-2)

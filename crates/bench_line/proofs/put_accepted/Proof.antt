@@ -7,43 +7,6 @@ use Rattle.bench_line.specs.Line.{acceptedWord, behindSpace, lineFeed}
 use Rattle.bench_line.proofs.PuttingLaws.{puts-then}
 use Rattle.bench_line.proofs.put_accepted.Statement.{statement}
 use Rattle.bench_line.proofs.put_accepted.Tie as tie
-use Rattle.bench_line.proofs.put_accepted.Reads as reads
-use Rattle.bench_line.proofs.put_accepted.Lts as lts
-use Rattle.bench_line.proofs.put.Reads as put-reads
-use Rattle.bench_line.proofs.put_decimal.Reads as put-decimal-reads
-
-slice-aggregate-put : tie.Need-slice-aggregate-put
-slice-aggregate-put c = search needs
-
-put-requires : tie.Need-put-requires
-put-requires c κs = search needs
-
-cast-put-decimal : tie.Need-cast-put-decimal
-cast-put-decimal c = search needs
-
-put-decimal-requires : tie.Need-put-decimal-requires
-put-decimal-requires c κs = search needs
-
-cast-put-decimal-2 : tie.Need-cast-put-decimal-2
-cast-put-decimal-2 c = search needs
-
-put-decimal-requires-2 : tie.Need-put-decimal-requires-2
-put-decimal-requires-2 c κs = search needs
-
-cast-put-decimal-3 : tie.Need-cast-put-decimal-3
-cast-put-decimal-3 c = search needs
-
-put-decimal-requires-3 : tie.Need-put-decimal-requires-3
-put-decimal-requires-3 c κs = search needs
-
-slice-aggregate-put-2 : tie.Need-slice-aggregate-put-2
-slice-aggregate-put-2 c = search needs
-
-put-requires-2 : tie.Need-put-requires-2
-put-requires-2 c κs = search needs
-
-same-length : tie.Need-same-length
-same-length c = search needs
 
 returns : tie.Need-returns
 returns c =
@@ -69,15 +32,15 @@ pub put-accepted-spec : {M : Type 1} → statement M
 put-accepted-spec =
     tie.close
     (tie.spec
-    slice-aggregate-put
-    put-requires
-    cast-put-decimal
-    put-decimal-requires
-    cast-put-decimal-2
-    put-decimal-requires-2
-    cast-put-decimal-3
-    put-decimal-requires-3
-    slice-aggregate-put-2
-    put-requires-2
-    same-length
+    (λ c. search needs)
+    (λ c κs. search needs)
+    (λ c. search needs)
+    (λ c κs. search needs)
+    (λ c. search needs)
+    (λ c κs. search needs)
+    (λ c. search needs)
+    (λ c κs. search needs)
+    (λ c. search needs)
+    (λ c κs. search needs)
+    (λ c. search needs)
     returns)

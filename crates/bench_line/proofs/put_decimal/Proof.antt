@@ -13,28 +13,6 @@ use Rattle.bench_line.proofs.DecimalLaws.{decimal-fewest, at-most-twent
 use Rattle.bench_line.proofs.PuttingLaws.{puts-then}
 use Rattle.bench_line.proofs.put_decimal.Statement.{statement}
 use Rattle.bench_line.proofs.put_decimal.Tie as tie
-use Rattle.bench_line.proofs.put_decimal.Reads as reads
-use Rattle.bench_line.proofs.put_decimal.Lts as lts
-use Rattle.bench_line.proofs.put.Reads as put-reads
-use Rattle.io.proofs.decimal.Reads as decimal-reads
-
-decimal-requires : tie.Need-decimal-requires
-decimal-requires c κs = search needs
-
-slice-aggregate-put : tie.Need-slice-aggregate-put
-slice-aggregate-put c = search needs
-
-put-requires : tie.Need-put-requires
-put-requires c κs = search needs
-
-sub-put : tie.Need-sub-put
-sub-put c = search needs
-
-part-put-start : tie.Need-part-put-start
-part-put-start c = search needs
-
-part-put-end : tie.Need-part-put-end
-part-put-end c = search needs
 
 put-requires-2 : tie.Need-put-requires-2
 put-requires-2 c κs =
@@ -44,9 +22,6 @@ put-requires-2 c κs =
     let wide : start .args .number < 2 ^ 64 = search needs in
     rw (sub-zero (spelt .result), sym (spelt .ensures .0 .1))
     (omega (arith, put .ensures .0, put .ensures .1, at-most-twenty (spelt .result) (start .args .number) wide (spelt .ensures .1 .0)))
-
-same-length : tie.Need-same-length
-same-length c = search needs
 
 returns : tie.Need-returns
 returns c =
@@ -68,12 +43,12 @@ pub put-decimal-spec : {M : Type 1} → statement M
 put-decimal-spec =
     tie.close
     (tie.spec
-    decimal-requires
-    slice-aggregate-put
-    put-requires
-    sub-put
-    part-put-start
-    part-put-end
+    (λ c κs. search needs)
+    (λ c. search needs)
+    (λ c κs. search needs)
+    (λ c. search needs)
+    (λ c. search needs)
+    (λ c. search needs)
     put-requires-2
-    same-length
+    (λ c. search needs)
     returns)

@@ -10,21 +10,6 @@ use Rattle.bench_line.specs.Line.{acceptedLine, refusedLine, lineBy}
 use Rattle.bench_line.specs.Putting.{Puts}
 use Rattle.bench_line.proofs.put_line.Statement.{statement}
 use Rattle.bench_line.proofs.put_line.Tie as tie
-use Rattle.bench_line.proofs.put_line.Reads as reads
-use Rattle.bench_line.proofs.put_line.Lts as lts
-use Rattle.bench_line.proofs.put_accepted.Reads as put-accepted-reads
-use Rattle.bench_line.proofs.put_refused.Reads as put-refused-reads
-use Rattle.frame.proofs.reader.Reading.header.Reads as header-reads
-use Rattle.frame.proofs.reader.Reading.number.Reads as number-reads
-
-number-requires : tie.Need-number-requires
-number-requires c κs = search needs
-
-put-refused-requires : tie.Need-put-refused-requires
-put-refused-requires c κs = search needs
-
-same-length : tie.Need-same-length
-same-length c = search needs
 
 returns : tie.Need-returns
 returns c =
@@ -36,15 +21,6 @@ returns c =
     let right : refusedLine (number .result) ≡ lineBy t =
     ap refusedLine (number .ensures) ∙ sym (if-refused (t .number) (acceptedLine (t .header)) (refusedLine (t .number)) refused) in
     (subst (λ (text : List ℕ). Puts text 0 (put .result) (now (a .line)) (put .last .0)) right (put .ensures .0), put .ensures .1)
-
-header-requires : tie.Need-header-requires
-header-requires c κs = search needs
-
-put-accepted-requires : tie.Need-put-accepted-requires
-put-accepted-requires c κs = search needs
-
-same-length-2 : tie.Need-same-length-2
-same-length-2 c = search needs
 
 returns-2 : tie.Need-returns-2
 returns-2 c =
@@ -62,11 +38,11 @@ pub put-line-spec : {M : Type 1} → statement M
 put-line-spec =
     tie.close
     (tie.spec
-    number-requires
-    put-refused-requires
-    same-length
+    (λ c κs. search needs)
+    (λ c κs. search needs)
+    (λ c. search needs)
     returns
-    header-requires
-    put-accepted-requires
-    same-length-2
+    (λ c κs. search needs)
+    (λ c κs. search needs)
+    (λ c. search needs)
     returns-2)

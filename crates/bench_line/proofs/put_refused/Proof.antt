@@ -7,28 +7,6 @@ use Rattle.bench_line.specs.Line.{refusedWord, behindSpace, lineFeed}
 use Rattle.bench_line.proofs.PuttingLaws.{puts-then}
 use Rattle.bench_line.proofs.put_refused.Statement.{statement}
 use Rattle.bench_line.proofs.put_refused.Tie as tie
-use Rattle.bench_line.proofs.put_refused.Reads as reads
-use Rattle.bench_line.proofs.put_refused.Lts as lts
-use Rattle.bench_line.proofs.put.Reads as put-reads
-use Rattle.bench_line.proofs.put_decimal.Reads as put-decimal-reads
-
-slice-aggregate-put : tie.Need-slice-aggregate-put
-slice-aggregate-put c = search needs
-
-put-requires : tie.Need-put-requires
-put-requires c κs = search needs
-
-put-decimal-requires : tie.Need-put-decimal-requires
-put-decimal-requires c κs = search needs
-
-slice-aggregate-put-2 : tie.Need-slice-aggregate-put-2
-slice-aggregate-put-2 c = search needs
-
-put-requires-2 : tie.Need-put-requires-2
-put-requires-2 c κs = search needs
-
-same-length : tie.Need-same-length
-same-length c = search needs
 
 returns : tie.Need-returns
 returns c =
@@ -47,10 +25,10 @@ pub put-refused-spec : {M : Type 1} → statement M
 put-refused-spec =
     tie.close
     (tie.spec
-    slice-aggregate-put
-    put-requires
-    put-decimal-requires
-    slice-aggregate-put-2
-    put-requires-2
-    same-length
+    (λ c. search needs)
+    (λ c κs. search needs)
+    (λ c κs. search needs)
+    (λ c. search needs)
+    (λ c κs. search needs)
+    (λ c. search needs)
     returns)

@@ -13,9 +13,6 @@ use Rattle.division.proofs.MachineLaws.{low-bit}
 use Rattle.division.proofs.TurnLaws.{fed, turn-bit, end-bits}
 use Rattle.checksum.proofs.feed.Statement.{statement}
 use Rattle.checksum.proofs.feed.Tie as tie
-use Rattle.checksum.proofs.feed.Reads as reads
-use Rattle.checksum.proofs.feed.Lts as lts
-use Rattle.checksum.proofs.step.Reads as step-reads
 
 abbrev Inv-loop : tie.InvT-loop
 Inv-loop width polynomial register n count r₀ fed₀ r fed =
@@ -27,27 +24,6 @@ abbrev μ-loop : tie.MeasureT-loop
 
 loop-holds : tie.Need-loop-holds Inv-loop μ-loop
 loop-holds c = (omega arith, c .pre .3, rw sub-zero)
-
-sub-place : tie.Need-sub-place Inv-loop μ-loop
-sub-place c = search needs
-
-sub-place-2 : tie.Need-sub-place-2 Inv-loop μ-loop
-sub-place-2 c = search needs
-
-cast-step : tie.Need-cast-step Inv-loop μ-loop
-cast-step c = search needs
-
-shr-step : tie.Need-shr-step Inv-loop μ-loop
-shr-step c = search needs
-
-step-requires : tie.Need-step-requires Inv-loop μ-loop
-step-requires c κs = search needs
-
-add-fed : tie.Need-add-fed Inv-loop μ-loop
-add-fed c = search needs
-
-loop-less : tie.Need-loop-less Inv-loop μ-loop
-loop-less c = search needs
 
 loop-again : tie.Need-loop-again Inv-loop μ-loop
 loop-again c =
@@ -75,12 +51,12 @@ feed-spec =
     Inv-loop
     μ-loop
     loop-holds
-    sub-place
-    sub-place-2
-    cast-step
-    shr-step
-    step-requires
-    add-fed
-    loop-less
+    (λ c. search needs)
+    (λ c. search needs)
+    (λ c. search needs)
+    (λ c. search needs)
+    (λ c κs. search needs)
+    (λ c. search needs)
+    (λ c. search needs)
     loop-again
     returns)

@@ -11,9 +11,6 @@ use Rattle.division.proofs.TurnLaws.{fed, turn-byte, end-bytes}
 use Rattle.checksum.specs.Checksums.{framePolynomial}
 use Rattle.checksum.proofs.feed_bytes.Statement.{statement}
 use Rattle.checksum.proofs.feed_bytes.Tie as tie
-use Rattle.checksum.proofs.feed_bytes.Reads as reads
-use Rattle.checksum.proofs.feed_bytes.Lts as lts
-use Rattle.checksum.proofs.feed.Reads as feed-reads
 
 abbrev Inv-loop : tie.InvT-loop
 Inv-loop register bytes r₀ i₀ r i =
@@ -23,23 +20,8 @@ Inv-loop register bytes r₀ i₀ r i =
 abbrev μ-loop : tie.MeasureT-loop
 μ-loop register bytes r₀ i₀ r i = length bytes - i
 
-loop-holds : tie.Need-loop-holds Inv-loop μ-loop
-loop-holds c = search needs
-
-shared-slice-read-feed : tie.Need-shared-slice-read-feed Inv-loop μ-loop
-shared-slice-read-feed c = search needs
-
 cast-feed : tie.Need-cast-feed Inv-loop μ-loop
 cast-feed c = omega (arith, c .shared-slice-known2 .given (c .before .before .loop .i))
-
-feed-requires : tie.Need-feed-requires Inv-loop μ-loop
-feed-requires c κs = search needs
-
-add-i : tie.Need-add-i Inv-loop μ-loop
-add-i c = search needs
-
-loop-less : tie.Need-loop-less Inv-loop μ-loop
-loop-less c = search needs
 
 loop-again : tie.Need-loop-again Inv-loop μ-loop
 loop-again c =
@@ -63,11 +45,11 @@ feed-bytes-spec =
     (tie.spec
     Inv-loop
     μ-loop
-    loop-holds
-    shared-slice-read-feed
+    (λ c. search needs)
+    (λ c. search needs)
     cast-feed
-    feed-requires
-    add-i
-    loop-less
+    (λ c κs. search needs)
+    (λ c. search needs)
+    (λ c. search needs)
     loop-again
     returns)

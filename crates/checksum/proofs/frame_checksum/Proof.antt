@@ -8,19 +8,6 @@ use Rattle.checksum.specs.Channel.{notAChannel, channelOf}
 use Rattle.checksum.proofs.ChannelLaws.{named-is, named-not}
 use Rattle.checksum.proofs.frame_checksum.Statement.{statement}
 use Rattle.checksum.proofs.frame_checksum.Tie as tie
-use Rattle.checksum.proofs.frame_checksum.Reads as reads
-use Rattle.checksum.proofs.frame_checksum.Lts as lts
-use Rattle.checksum.proofs.Channel.named.Reads as named-reads
-use Rattle.checksum.proofs.frame_checksum_on.Reads as frame-checksum-on-reads
-
-named-requires : tie.Need-named-requires
-named-requires c κs = search needs
-
-enum-known-named : tie.Need-enum-known-named
-enum-known-named c = search needs
-
-enum-told : tie.Need-enum-told
-enum-told c = search needs
 
 returns : tie.Need-returns
 unfolding first
@@ -28,9 +15,6 @@ returns c =
     let n = c .before .before .before .before .args .channel in
     let e : notAChannel n ≡ true = named-not n (sym (c .before .before .named .ensures) ∙ c .enum-told .given .1) in
     rw (e, first)
-
-frame-checksum-on-requires : tie.Need-frame-checksum-on-requires
-frame-checksum-on-requires c κs = search needs
 
 returns-2 : tie.Need-returns-2
 unfolding first
@@ -45,9 +29,9 @@ pub frame-checksum-spec : {M : Type 1} → statement M
 frame-checksum-spec =
     tie.close
     (tie.spec
-    named-requires
-    enum-known-named
-    enum-told
+    (λ c κs. search needs)
+    (λ c. search needs)
+    (λ c. search needs)
     returns
-    frame-checksum-on-requires
+    (λ c κs. search needs)
     returns-2)

@@ -7,16 +7,6 @@ use Rattle.division.specs.Division.{checksum}
 use Rattle.checksum.specs.Checksums.{framePolynomial}
 use Rattle.checksum.proofs.frame_checksum_on.Statement.{statement}
 use Rattle.checksum.proofs.frame_checksum_on.Tie as tie
-use Rattle.checksum.proofs.frame_checksum_on.Reads as reads
-use Rattle.checksum.proofs.frame_checksum_on.Lts as lts
-use Rattle.checksum.proofs.Channel.start.Reads as start-reads
-use Rattle.checksum.proofs.feed_bytes.Reads as feed-bytes-reads
-
-start-requires : tie.Need-start-requires
-start-requires c κs = search needs
-
-feed-bytes-requires : tie.Need-feed-bytes-requires
-feed-bytes-requires c κs = search needs
 
 returns : tie.Need-returns
 returns c =
@@ -24,4 +14,4 @@ returns c =
     c .«feed-bytes» .ensures .value ∙ ap (λ s. checksum 24 framePolynomial s message) (c .before .start .ensures .0)
 
 pub frame-checksum-on-spec : {M : Type 1} → statement M
-frame-checksum-on-spec = tie.close (tie.spec start-requires feed-bytes-requires returns)
+frame-checksum-on-spec = tie.close (tie.spec (λ c κs. search needs) (λ c κs. search needs) returns)

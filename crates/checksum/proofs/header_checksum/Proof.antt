@@ -6,19 +6,6 @@ use Rattle.division.specs.Division.{checksum}
 use Rattle.checksum.specs.Checksums.{headerDivision}
 use Rattle.checksum.proofs.header_checksum.Statement.{statement}
 use Rattle.checksum.proofs.header_checksum.Tie as tie
-use Rattle.checksum.proofs.header_checksum.Reads as reads
-use Rattle.checksum.proofs.header_checksum.Lts as lts
-use Rattle.checksum.proofs.feed.Reads as feed-reads
-use Rattle.checksum.proofs.up_to_64.Reads as up-to-64-reads
-
-up-to-64-requires : tie.Need-up-to-64-requires
-up-to-64-requires c κs = search needs
-
-feed-requires : tie.Need-feed-requires
-feed-requires c κs = search needs
-
-cast-result : tie.Need-cast-result
-cast-result c = search needs
 
 returns : tie.Need-returns
 returns c =
@@ -28,4 +15,4 @@ returns c =
     fed ∙ ap (λ n. headerDivision (bits n (a .message))) (count .ensures .0)
 
 pub header-checksum-spec : {M : Type 1} → statement M
-header-checksum-spec = tie.close (tie.spec up-to-64-requires feed-requires cast-result returns)
+header-checksum-spec = tie.close (tie.spec (λ c κs. search needs) (λ c κs. search needs) (λ c. search needs) returns)

@@ -9,20 +9,9 @@ use Rattle.division.proofs.TurnLaws.{fed}
 use Rattle.division.proofs.MachineLaws.{low-bit, beq-true, beq-false, one-shl, shifted, fed-same, fed-other}
 use Rattle.checksum.proofs.step.Statement.{statement}
 use Rattle.checksum.proofs.step.Tie as tie
-use Rattle.checksum.proofs.step.Reads as reads
-use Rattle.checksum.proofs.step.Lts as lts
-
-shl-mask : tie.Need-shl-mask
-shl-mask c = search needs
 
 sub-mask : tie.Need-sub-mask
 sub-mask c = rw (one-shl (c .args .width) (c .pre .0) (c .pre .1)) (pow-pos (c .args .width))
-
-sub-top : tie.Need-sub-top
-sub-top c = search needs
-
-shr-top : tie.Need-shr-top
-shr-top c = search needs
 
 returns : tie.Need-returns
 returns c =
@@ -47,4 +36,4 @@ returns-2 c =
     (sym (low-bit top) ∙ beq-false (a .next) _ (c .if1 .left))))
 
 pub step-spec : {M : Type 1} → statement M
-step-spec = tie.close (tie.spec shl-mask sub-mask sub-top shr-top returns returns-2)
+step-spec = tie.close (tie.spec (λ c. search needs) sub-mask (λ c. search needs) (λ c. search needs) returns returns-2)

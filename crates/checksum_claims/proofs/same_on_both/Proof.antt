@@ -10,22 +10,6 @@ use Rattle.checksum_claims.proofs.Checksums.{channels-apart}
 use Rattle.checksum_claims.proofs.FrameChecksum.{on-a, on-b}
 use Rattle.checksum_claims.proofs.same_on_both.Statement.{statement}
 use Rattle.checksum_claims.proofs.same_on_both.Tie as tie
-use Rattle.checksum_claims.proofs.same_on_both.Reads as reads
-use Rattle.checksum_claims.proofs.same_on_both.Lts as lts
-use Rattle.checksum.proofs.Checksum.value.Reads as value-reads
-use Rattle.checksum.proofs.frame_checksum.Reads as frame-checksum-reads
-
-frame-checksum-requires : tie.Need-frame-checksum-requires
-frame-checksum-requires c κs = search needs
-
-frame-checksum-requires-2 : tie.Need-frame-checksum-requires-2
-frame-checksum-requires-2 c κs = search needs
-
-value-requires : tie.Need-value-requires
-value-requires c κs = search needs
-
-value-requires-2 : tie.Need-value-requires-2
-value-requires-2 c κs = search needs
 
 returns : tie.Need-returns
 returns c =
@@ -40,8 +24,8 @@ pub same-on-both-spec : {M : Type 1} → statement M
 same-on-both-spec =
     tie.close
     (tie.spec
-    frame-checksum-requires
-    frame-checksum-requires-2
-    value-requires
-    value-requires-2
+    (λ c κs. search needs)
+    (λ c κs. search needs)
+    (λ c κs. search needs)
+    (λ c κs. search needs)
     returns)

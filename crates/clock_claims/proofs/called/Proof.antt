@@ -2,13 +2,6 @@
 use borrow.Author.Needs.{needs}
 use Rattle.clock_claims.proofs.called.Statement.{statement}
 use Rattle.clock_claims.proofs.called.Tie as tie
-use Rattle.clock_claims.proofs.called.Reads as reads
-use Rattle.clock_claims.proofs.called.Lts as lts
-use Rattle.clock.proofs.load.Reads as load-reads
-use Rattle.clock.proofs.open_cycle.Reads as open-cycle-reads
-use Rattle.closing.proofs.close_cycle.Reads as close-cycle-reads
-use Rattle.measuring.proofs.measure.Reads as measure-reads
-use Rattle.clock_claims.proofs.control_of.Reads as control-of-reads
 use mathlib.Core.Path.{refl, sym, subst}
 use mir.Syntax.{w32}
 use mir.Val.{SFits}
@@ -21,18 +14,12 @@ use Rattle.clock_claims.specs.History.{Call, loaded, opened, measured, c
 use Rattle.clock_claims.specs.Histories.{Leaves}
 use Rattle.clock_claims.proofs.Witnesses.{call-0, call-1, call-2, call-3, call-4, call-5}
 
-load-requires : tie.Need-load-requires
-load-requires c κs = search needs
-
 returns : tie.Need-returns
 returns c =
     let a = c .before .before .before .args in
     subst (λ (call : Call). Leaves (a .state) call (c .before .load .result .clock))
     (sym (call-0 (a .sheet) (a .other-sheet) (a .status) (a .other-status) (a .number) (c .before .before .if1 .taken)))
     (loaded (loading.told (c .before .load .result .answer)), (c .before .load .result, c .before .load .ensures, refl, refl))
-
-load-requires-2 : tie.Need-load-requires-2
-load-requires-2 c κs = search needs
 
 returns-2 : tie.Need-returns-2
 returns-2 c =
@@ -41,27 +28,12 @@ returns-2 c =
     (sym (call-1 (a .sheet) (a .other-sheet) (a .status) (a .other-status) (a .number) (c .before .before .before .if1 .left) (c .before .before .if2 .taken)))
     (loaded (loading.told (c .before .load2 .result .answer)), (c .before .load2 .result, c .before .load2 .ensures, refl, refl))
 
-cast-cycle : tie.Need-cast-cycle
-cast-cycle c = search needs
-
-open-cycle-requires : tie.Need-open-cycle-requires
-open-cycle-requires c κs = search needs
-
 returns-3 : tie.Need-returns-3
 returns-3 c =
     let a = c .before .before .before .before .before .args in
     subst (λ (call : Call). Leaves (a .state) call (c .before .open-cycle .result .clock))
     (sym (call-2 (a .sheet) (a .other-sheet) (a .status) (a .other-status) (a .number) (c .before .before .before .before .if1 .left) (c .before .before .before .if2 .left) (c .before .before .if3 .taken)))
     (opened (opening.told (c .before .open-cycle .result .answer)), (c .before .open-cycle .result, c .before .open-cycle .ensures, refl, refl))
-
-cast-t21 : tie.Need-cast-t21
-cast-t21 c = search needs
-
-cast-t23 : tie.Need-cast-t23
-cast-t23 c = search needs
-
-measure-requires : tie.Need-measure-requires
-measure-requires c κs = search needs
 
 returns-4 : tie.Need-returns-4
 returns-4 c =
@@ -70,30 +42,12 @@ returns-4 c =
     (sym (call-3 (a .sheet) (a .other-sheet) (a .status) (a .other-status) (a .number) (c .before .before .before .before .before .if1 .left) (c .before .before .before .before .if2 .left) (c .before .before .before .if3 .left) (c .before .before .if4 .taken)))
     (measured (measuring.told (c .before .measure .result .answer)), (c .before .measure .result, c .before .measure .ensures, refl, refl))
 
-cast-t25 : tie.Need-cast-t25
-cast-t25 c = search needs
-
-cast-t27 : tie.Need-cast-t27
-cast-t27 c = search needs
-
-measure-requires-2 : tie.Need-measure-requires-2
-measure-requires-2 c κs = search needs
-
 returns-5 : tie.Need-returns-5
 returns-5 c =
     let a = c .before .before .before .before .before .before .before .args in
     subst (λ (call : Call). Leaves (a .state) call (c .before .measure2 .result .clock))
     (sym (call-4 (a .sheet) (a .other-sheet) (a .status) (a .other-status) (a .number) (c .before .before .before .before .before .before .if1 .left) (c .before .before .before .before .before .if2 .left) (c .before .before .before .before .if3 .left) (c .before .before .before .if4 .left) (c .before .before .if5 .taken)))
     (measured (measuring.told (c .before .measure2 .result .answer)), (c .before .measure2 .result, c .before .measure2 .ensures, refl, refl))
-
-control-of-requires : tie.Need-control-of-requires
-control-of-requires c κs = search needs
-
-control-of-requires-2 : tie.Need-control-of-requires-2
-control-of-requires-2 c κs = search needs
-
-close-cycle-requires : tie.Need-close-cycle-requires
-close-cycle-requires c κs = search needs
 
 returns-6 : tie.Need-returns-6
 returns-6 c =
@@ -111,22 +65,22 @@ pub called-spec : {M : Type 1} → statement M
 called-spec =
     tie.close
     (tie.spec
-    load-requires
+    (λ c κs. search needs)
     returns
-    load-requires-2
+    (λ c κs. search needs)
     returns-2
-    cast-cycle
-    open-cycle-requires
+    (λ c. search needs)
+    (λ c κs. search needs)
     returns-3
-    cast-t21
-    cast-t23
-    measure-requires
+    (λ c. search needs)
+    (λ c. search needs)
+    (λ c κs. search needs)
     returns-4
-    cast-t25
-    cast-t27
-    measure-requires-2
+    (λ c. search needs)
+    (λ c. search needs)
+    (λ c κs. search needs)
     returns-5
-    control-of-requires
-    control-of-requires-2
-    close-cycle-requires
+    (λ c κs. search needs)
+    (λ c κs. search needs)
+    (λ c κs. search needs)
     returns-6)

@@ -2,9 +2,6 @@
 use borrow.Author.Needs.{needs}
 use Rattle.clock_claims.proofs.closed.Statement.{statement}
 use Rattle.clock_claims.proofs.closed.Tie as tie
-use Rattle.clock_claims.proofs.closed.Reads as reads
-use Rattle.clock_claims.proofs.closed.Lts as lts
-use Rattle.closing.proofs.close_cycle.Reads as close-cycle-reads
 use Rattle.numbers.proofs.Walk.{length-of-mapped}
 use Rattle.slot_claims.specs.Sheet.{TypedSettings}
 use Rattle.clock_claims.specs.Typed.{TypedList, TypedClock}
@@ -18,9 +15,6 @@ typed c =
     let odd : TypedList (c .args .state .odd) = search (needs, length-of-mapped) in
     record { settings = settings; even = even; odd = odd }
 
-close-cycle-requires : tie.Need-close-cycle-requires
-close-cycle-requires c κs = search needs
-
 returns : tie.Need-returns
 returns c =
     let s = c .before in
@@ -28,4 +22,4 @@ returns c =
     (rw (toZ-ofZ (s .fits .offset-control), toZ-ofZ (s .fits .rate-control)) at (c .close-cycle .ensures))
 
 pub closed-spec : {M : Type 1} → statement M
-closed-spec = tie.close (tie.spec close-cycle-requires returns)
+closed-spec = tie.close (tie.spec (λ c κs. search needs) returns)

@@ -2,20 +2,10 @@
 use borrow.Author.Needs.{needs}
 use Rattle.clock_claims.proofs.closed_after.Statement.{statement}
 use Rattle.clock_claims.proofs.closed_after.Tie as tie
-use Rattle.clock_claims.proofs.closed_after.Reads as reads
-use Rattle.clock_claims.proofs.closed_after.Lts as lts
-use Rattle.closing.proofs.close_cycle.Reads as close-cycle-reads
-use Rattle.clock_claims.proofs.played.Reads as played-reads
 use mir.Facts.{toZ-ofZ}
 use denote.Ref.{now}
 use Rattle.clock_claims.specs.Witnesses.{callsOf}
 use Rattle.clock_claims.proofs.Witnesses.{closed-after-well}
-
-played-requires : tie.Need-played-requires
-played-requires c κs = search needs
-
-close-cycle-requires : tie.Need-close-cycle-requires
-close-cycle-requires c κs = search needs
 
 returns : tie.Need-returns
 returns c =
@@ -25,4 +15,4 @@ returns c =
     (c .close-cycle .result) (c .before .played .ensures .made) (rw (toZ-ofZ (s .fits .offset-control), toZ-ofZ (s .fits .rate-control)) at (c .close-cycle .ensures))
 
 pub closed-after-spec : {M : Type 1} → statement M
-closed-after-spec = tie.close (tie.spec played-requires close-cycle-requires returns)
+closed-after-spec = tie.close (tie.spec (λ c κs. search needs) (λ c κs. search needs) returns)

@@ -1,8 +1,6 @@
 -- `control_of` meets its contract: one of four controls, the last of which is none.
 use Rattle.clock_claims.proofs.control_of.Statement.{statement}
 use Rattle.clock_claims.proofs.control_of.Tie as tie
-use Rattle.clock_claims.proofs.control_of.Reads as reads
-use Rattle.clock_claims.proofs.control_of.Lts as lts
 use Prim.Native.Nat.{_%_}
 use borrow.Author.Tests.{eq-eqb, ne-eqb}
 

@@ -2,9 +2,6 @@
 use borrow.Author.Needs.{needs}
 use Rattle.clock_claims.proofs.is_sound_in_words.Statement.{statement}
 use Rattle.clock_claims.proofs.is_sound_in_words.Tie as tie
-use Rattle.clock_claims.proofs.is_sound_in_words.Reads as reads
-use Rattle.clock_claims.proofs.is_sound_in_words.Lts as lts
-use Rattle.clock.proofs.is_sound.Reads as is-sound-reads
 use Rattle.numbers.proofs.Walk.{length-of-mapped}
 use Rattle.slot_claims.specs.Sheet.{TypedSettings}
 use Rattle.clock_claims.specs.Typed.{TypedList, TypedClock}
@@ -18,13 +15,10 @@ typed c =
     let odd : TypedList (c .args .state .odd) = search (needs, length-of-mapped) in
     record { settings = settings; even = even; odd = odd }
 
-is-sound-requires : tie.Need-is-sound-requires
-is-sound-requires c κs = search needs
-
 returns : tie.Need-returns
 returns c =
     let exact = sound-exactly (c .before .args .state) (typed (c .before)) in
     (λ e. exact .0 (sym (c .is-sound .ensures) ∙ e), λ s. c .is-sound .ensures ∙ exact .1 s)
 
 pub is-sound-in-words-spec : {M : Type 1} → statement M
-is-sound-in-words-spec = tie.close (tie.spec is-sound-requires returns)
+is-sound-in-words-spec = tie.close (tie.spec (λ c κs. search needs) returns)

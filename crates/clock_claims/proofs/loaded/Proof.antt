@@ -2,14 +2,8 @@
 use borrow.Author.Needs.{needs}
 use Rattle.clock_claims.proofs.loaded.Statement.{statement}
 use Rattle.clock_claims.proofs.loaded.Tie as tie
-use Rattle.clock_claims.proofs.loaded.Reads as reads
-use Rattle.clock_claims.proofs.loaded.Lts as lts
-use Rattle.clock.proofs.load.Reads as load-reads
 use Rattle.slot_claims.specs.Sheet.{TypedSettings}
 use Rattle.clock_claims.proofs.Witnesses.{loaded-well}
-
-load-requires : tie.Need-load-requires
-load-requires c κs = search needs
 
 returns : tie.Need-returns
 returns c =
@@ -17,4 +11,4 @@ returns c =
     loaded-well (c .before .args .settings) (c .load .result) typed (c .load .ensures)
 
 pub loaded-spec : {M : Type 1} → statement M
-loaded-spec = tie.close (tie.spec load-requires returns)
+loaded-spec = tie.close (tie.spec (λ c κs. search needs) returns)

@@ -2,9 +2,6 @@
 use borrow.Author.Needs.{needs}
 use Rattle.clock_claims.proofs.measured.Statement.{statement}
 use Rattle.clock_claims.proofs.measured.Tie as tie
-use Rattle.clock_claims.proofs.measured.Reads as reads
-use Rattle.clock_claims.proofs.measured.Lts as lts
-use Rattle.measuring.proofs.measure.Reads as measure-reads
 use Rattle.numbers.proofs.Walk.{length-of-mapped}
 use Rattle.slot_claims.specs.Sheet.{TypedSettings}
 use Rattle.clock_claims.specs.Typed.{TypedList, TypedClock}
@@ -17,13 +14,10 @@ typed c =
     let odd : TypedList (c .args .state .odd) = search (needs, length-of-mapped) in
     record { settings = settings; even = even; odd = odd }
 
-measure-requires : tie.Need-measure-requires
-measure-requires c κs = search needs
-
 returns : tie.Need-returns
 returns c =
     let a = c .before .args in
     measured-well (a .state) (a .status) (a .observed) (a .action-point) (c .measure .result) (typed (c .before)) (c .measure .ensures)
 
 pub measured-spec : {M : Type 1} → statement M
-measured-spec = tie.close (tie.spec measure-requires returns)
+measured-spec = tie.close (tie.spec (λ c κs. search needs) returns)

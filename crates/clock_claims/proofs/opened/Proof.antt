@@ -2,16 +2,10 @@
 use borrow.Author.Needs.{needs}
 use Rattle.clock_claims.proofs.opened.Statement.{statement}
 use Rattle.clock_claims.proofs.opened.Tie as tie
-use Rattle.clock_claims.proofs.opened.Reads as reads
-use Rattle.clock_claims.proofs.opened.Lts as lts
-use Rattle.clock.proofs.open_cycle.Reads as open-cycle-reads
 use Rattle.clock_claims.proofs.Witnesses.{opened-well}
-
-open-cycle-requires : tie.Need-open-cycle-requires
-open-cycle-requires c κs = search needs
 
 returns : tie.Need-returns
 returns c = opened-well (c .before .args .state) (c .before .args .cycle) (c .open-cycle .result) (c .open-cycle .ensures)
 
 pub opened-spec : {M : Type 1} → statement M
-opened-spec = tie.close (tie.spec open-cycle-requires returns)
+opened-spec = tie.close (tie.spec (λ c κs. search needs) returns)

@@ -3,9 +3,6 @@ use borrow.Author.Needs.{needs}
 use Rattle.clock_claims.proofs.played.Statement.{statement}
 use Rattle.clock_claims.proofs.played.Tie as tie
 use Rattle.clock_claims.proofs.played.Reads as reads
-use Rattle.clock_claims.proofs.played.Lts as lts
-use Rattle.clock.proofs.state.Clock.none.Reads as none-reads
-use Rattle.clock_claims.proofs.called.Reads as called-reads
 use Prim.Native.Nat.{ℕ, _+_, _-_, _^_, _≤_, _<_}
 use mathlib.Core.Path.{_≡_, refl, sym, ap, subst, _∙_}
 use mathlib.Core.List.{List, [], _∷_, _++_, map-append}
@@ -29,9 +26,6 @@ abbrev μ-loop : tie.MeasureT-loop
 room : (c : tie.In-loop Inv-loop μ-loop) → c .before .loop .i + 1 < 2 ^ 64
 room c = omega arith
 
-none-requires : tie.Need-none-requires Inv-loop μ-loop
-none-requires c κs = search needs
-
 loop-holds : tie.Need-loop-holds Inv-loop μ-loop
 loop-holds c = (omega arith, ([], (refl, sym (c .none .ensures))))
 
@@ -40,9 +34,6 @@ mul-number c = omega arith
 
 shared-slice-read-number : tie.Need-shared-slice-read-number Inv-loop μ-loop
 shared-slice-read-number c = omega arith
-
-called-requires : tie.Need-called-requires Inv-loop μ-loop
-called-requires c κs = search needs
 
 add-i : tie.Need-add-i Inv-loop μ-loop
 add-i c = omega (arith, room (c .before .before))
@@ -82,11 +73,11 @@ played-spec =
     (tie.spec
     Inv-loop
     μ-loop
-    none-requires
+    (λ c κs. search needs)
     loop-holds
     mul-number
     shared-slice-read-number
-    called-requires
+    (λ c κs. search needs)
     add-i
     loop-less
     loop-again

@@ -2,15 +2,6 @@
 use borrow.Author.Needs.{needs}
 use Rattle.closing.proofs.close_cycle.Statement.{statement}
 use Rattle.closing.proofs.close_cycle.Tie as tie
-use Rattle.closing.proofs.close_cycle.Reads as reads
-use Rattle.closing.proofs.close_cycle.Lts as lts
-use Rattle.closing.proofs.closed_with.Reads as closed-with-reads
-use Rattle.closing.proofs.rate_found.Reads as rate-found-reads
-use Rattle.closing.proofs.refused.Reads as refused-reads
-use Rattle.closing.proofs.report_of.Reads as report-of-reads
-use Rattle.clock.proofs.is_sound.Reads as is-sound-reads
-use Rattle.clock.proofs.state.CycleOrNone.is_there.Reads as is-there-reads
-use Rattle.correction.proofs.external.Control.named.Reads as named-reads
 use mathlib.Core.Path.{_≡_, refl, sym, ap, subst, _∙_}
 use mathlib.Core.Bool.{Bool, true, false, not, _||_}
 use borrow.Author.Tests.{not-true, not-false}
@@ -51,12 +42,6 @@ rate-named c = named-control (c .before .before .before .before .before .before 
 
 -- ---- each return
 
-is-sound-requires : tie.Need-is-sound-requires
-is-sound-requires c κs = search needs
-
-refused-requires : tie.Need-refused-requires
-refused-requires c κs = search needs
-
 returns : tie.Need-returns
 returns c =
     let a = c .before .before .before .args in
@@ -64,12 +49,6 @@ returns c =
     let number : first (closingRefusals (a .clock) (a .offset-control) (a .rate-control)) ≡ 23 = first-here 23 _ (ap not unsound) in
     subst (CloseSays (a .clock) (a .offset-control) (a .rate-control)) (sym (c .refused .ensures))
     (close-says (a .clock) (a .offset-control) (a .rate-control) 23 NotSound (a .clock) number refl refl)
-
-is-there-requires : tie.Need-is-there-requires
-is-there-requires c κs = search needs
-
-refused-requires-2 : tie.Need-refused-requires-2
-refused-requires-2 c κs = search needs
 
 returns-2 : tie.Need-returns-2
 returns-2 c =
@@ -79,18 +58,6 @@ returns-2 c =
     first-skip 23 _ (ap not (is-sound (c .before .before .before))) ∙ first-here 18 _ (ap not closed) in
     subst (CloseSays (a .clock) (a .offset-control) (a .rate-control)) (sym (c .refused2 .ensures))
     (close-says (a .clock) (a .offset-control) (a .rate-control) 18 NoCycleOpen (a .clock) number refl refl)
-
-named-requires : tie.Need-named-requires
-named-requires c κs = search needs
-
-enum-known-offset : tie.Need-enum-known-offset
-enum-known-offset c = search needs
-
-enum-told : tie.Need-enum-told
-enum-told c = search needs
-
-refused-requires-3 : tie.Need-refused-requires-3
-refused-requires-3 c κs = search needs
 
 returns-3 : tie.Need-returns-3
 returns-3 c =
@@ -103,18 +70,6 @@ returns-3 c =
     ∙ first-here 21 _ (ap (λ (b : Bool). b || notAControl (a .rate-control)) no) in
     subst (CloseSays (a .clock) (a .offset-control) (a .rate-control)) (sym (c .refused3 .ensures))
     (close-says (a .clock) (a .offset-control) (a .rate-control) 21 NotAControl (a .clock) number refl refl)
-
-named-requires-2 : tie.Need-named-requires-2
-named-requires-2 c κs = search needs
-
-enum-known-rate : tie.Need-enum-known-rate
-enum-known-rate c = search needs
-
-enum-told-2 : tie.Need-enum-told-2
-enum-told-2 c = search needs
-
-refused-requires-4 : tie.Need-refused-requires-4
-refused-requires-4 c κs = search needs
 
 returns-4 : tie.Need-returns-4
 returns-4 c =
@@ -132,9 +87,6 @@ rate-found-requires c κs = is-sound (c .before .before .before .before .before 
 
 report-of-requires : tie.Need-report-of-requires
 report-of-requires c κs = (is-sound (c .before .before .before .before .before .before .before .before .before .before .before), c .rate-found .ensures)
-
-closed-with-requires : tie.Need-closed-with-requires
-closed-with-requires c κs = search needs
 
 returns-5 : tie.Need-returns-5
 returns-5 c =
@@ -163,23 +115,23 @@ pub close-cycle-spec : {M : Type 1} → statement M
 close-cycle-spec =
     tie.close
     (tie.spec
-    is-sound-requires
-    refused-requires
+    (λ c κs. search needs)
+    (λ c κs. search needs)
     returns
-    is-there-requires
-    refused-requires-2
+    (λ c κs. search needs)
+    (λ c κs. search needs)
     returns-2
-    named-requires
-    enum-known-offset
-    enum-told
-    refused-requires-3
+    (λ c κs. search needs)
+    (λ c. search needs)
+    (λ c. search needs)
+    (λ c κs. search needs)
     returns-3
-    named-requires-2
-    enum-known-rate
-    enum-told-2
-    refused-requires-4
+    (λ c κs. search needs)
+    (λ c. search needs)
+    (λ c. search needs)
+    (λ c κs. search needs)
     returns-4
     rate-found-requires
     report-of-requires
-    closed-with-requires
+    (λ c κs. search needs)
     returns-5)

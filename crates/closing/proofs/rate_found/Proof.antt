@@ -2,14 +2,6 @@
 use borrow.Author.Needs.{needs}
 use Rattle.closing.proofs.rate_found.Statement.{statement}
 use Rattle.closing.proofs.rate_found.Tie as tie
-use Rattle.closing.proofs.rate_found.Reads as reads
-use Rattle.closing.proofs.rate_found.Lts as lts
-use Rattle.clock.proofs.state.Clock.current_cycle.Reads as current-cycle-reads
-use Rattle.clock.proofs.is_odd.Reads as is-odd-reads
-use Rattle.correction.proofs.rate_term.Reads as rate-term-reads
-use Rattle.settings.proofs.Settings.drift_damping.Reads as drift-damping-reads
-use Rattle.settings.proofs.Settings.rate_limit.Reads as rate-limit-reads
-use Rattle.sync_list.proofs.list.SyncList.rate_values.Reads as rate-values-reads
 use mathlib.Core.Path.{_≡_, sym, ap, _∙_}
 use borrow.Author.Tests.{not-true, not-false}
 use Rattle.clock.specs.State.{isOdd, currentCycle}
@@ -23,26 +15,8 @@ use Rattle.sync_list.specs.Values.{rateValuesBy}
 odd-is : (c : tie.After-is-odd) → isOdd (currentCycle (c .before .before .before .before .before .before .args .clock)) ≡ c .is-odd .result
 odd-is c = sym (c .is-odd .ensures ∙ ap isOdd (c .before .current-cycle .ensures))
 
-current-cycle-requires : tie.Need-current-cycle-requires
-current-cycle-requires c κs = search needs
-
-is-odd-requires : tie.Need-is-odd-requires
-is-odd-requires c κs = search needs
-
 returns : tie.Need-returns
 returns c = rw (odd-is (c .before) ∙ not-true (c .before .is-odd .result) (c .if1 .taken))
-
-rate-values-requires : tie.Need-rate-values-requires
-rate-values-requires c κs = search needs
-
-drift-damping-requires : tie.Need-drift-damping-requires
-drift-damping-requires c κs = search needs
-
-rate-limit-requires : tie.Need-rate-limit-requires
-rate-limit-requires c κs = search needs
-
-rate-term-requires : tie.Need-rate-term-requires
-rate-term-requires c κs = search needs
 
 returns-2 : tie.Need-returns-2
 returns-2 c =
@@ -59,11 +33,11 @@ pub rate-found-spec : {M : Type 1} → statement M
 rate-found-spec =
     tie.close
     (tie.spec
-    current-cycle-requires
-    is-odd-requires
+    (λ c κs. search needs)
+    (λ c κs. search needs)
     returns
-    rate-values-requires
-    drift-damping-requires
-    rate-limit-requires
-    rate-term-requires
+    (λ c κs. search needs)
+    (λ c κs. search needs)
+    (λ c κs. search needs)
+    (λ c κs. search needs)
     returns-2)

@@ -9,16 +9,6 @@ use Rattle.frame_claims.proofs.Witnesses.{accepts-frames}
 use borrow.Author.Needs.{needs}
 use Rattle.frame_claims.proofs.accepts.Statement.{statement}
 use Rattle.frame_claims.proofs.accepts.Tie as tie
-use Rattle.frame_claims.proofs.accepts.Reads as reads
-use Rattle.frame_claims.proofs.accepts.Lts as lts
-use Rattle.frame.proofs.reader.Reading.number.Reads as number-reads
-use Rattle.frame.proofs.read.Reads as read-reads
-
-read-requires : tie.Need-read-requires
-read-requires c κs = search needs
-
-number-requires : tie.Need-number-requires
-number-requires c κs = search needs
 
 returns : tie.Need-returns
 returns c =
@@ -29,4 +19,4 @@ returns c =
     (accepts-frames (a .channel) bytes (c .before .read .result) are (c .before .read .ensures))
 
 pub accepts-spec : {M : Type 1} → statement M
-accepts-spec = tie.close (tie.spec read-requires number-requires returns)
+accepts-spec = tie.close (tie.spec (λ c κs. search needs) (λ c κs. search needs) returns)

@@ -5,21 +5,12 @@ use Rattle.frame_claims.proofs.Witnesses.{not-both, both-apart}
 use borrow.Author.Needs.{needs}
 use Rattle.frame_claims.proofs.both_accepted.Statement.{statement}
 use Rattle.frame_claims.proofs.both_accepted.Tie as tie
-use Rattle.frame_claims.proofs.both_accepted.Reads as reads
-use Rattle.frame_claims.proofs.both_accepted.Lts as lts
-use Rattle.frame_claims.proofs.accepts.Reads as accepts-reads
-
-accepts-requires : tie.Need-accepts-requires
-accepts-requires c κs = search needs
 
 returns : tie.Need-returns
 returns c =
     let first = c .before in
     let a = first .before .before .before .args in
     not-both (a .channel) (now (a .x)) (now (a .y)) (first .accepts .result) (first .accepts .ensures) (not-true (first .accepts .result) (c .if1 .taken))
-
-accepts-requires-2 : tie.Need-accepts-requires-2
-accepts-requires-2 c κs = search needs
 
 returns-2 : tie.Need-returns-2
 returns-2 c =
@@ -29,4 +20,4 @@ returns-2 c =
     (not-false (first .accepts .result) (c .before .if1 .left)) (c .accepts2 .ensures)
 
 pub both-accepted-spec : {M : Type 1} → statement M
-both-accepted-spec = tie.close (tie.spec accepts-requires returns accepts-requires-2 returns-2)
+both-accepted-spec = tie.close (tie.spec (λ c κs. search needs) returns (λ c κs. search needs) returns-2)

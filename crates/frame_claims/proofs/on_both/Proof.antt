@@ -5,18 +5,6 @@ use Rattle.frame_claims.proofs.Witnesses.{never-both}
 use borrow.Author.Needs.{needs}
 use Rattle.frame_claims.proofs.on_both.Statement.{statement}
 use Rattle.frame_claims.proofs.on_both.Tie as tie
-use Rattle.frame_claims.proofs.on_both.Reads as reads
-use Rattle.frame_claims.proofs.on_both.Lts as lts
-use Rattle.frame_claims.proofs.accepts.Reads as accepts-reads
-
-accepts-requires : tie.Need-accepts-requires
-accepts-requires c κs = search needs
-
-returns : tie.Need-returns
-returns c = search needs
-
-accepts-requires-2 : tie.Need-accepts-requires-2
-accepts-requires-2 c κs = search needs
 
 returns-2 : tie.Need-returns-2
 returns-2 c =
@@ -25,4 +13,4 @@ returns-2 c =
     (not-false (first .accepts .result) (c .before .if1 .left)) (c .accepts2 .ensures)
 
 pub on-both-spec : {M : Type 1} → statement M
-on-both-spec = tie.close (tie.spec accepts-requires returns accepts-requires-2 returns-2)
+on-both-spec = tie.close (tie.spec (λ c κs. search needs) (λ c. search needs) (λ c κs. search needs) returns-2)

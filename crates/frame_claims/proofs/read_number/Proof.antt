@@ -7,16 +7,6 @@ use Rattle.frame_claims.proofs.Answers.{read-in-order}
 use borrow.Author.Needs.{needs}
 use Rattle.frame_claims.proofs.read_number.Statement.{statement}
 use Rattle.frame_claims.proofs.read_number.Tie as tie
-use Rattle.frame_claims.proofs.read_number.Reads as reads
-use Rattle.frame_claims.proofs.read_number.Lts as lts
-use Rattle.frame.proofs.reader.Reading.number.Reads as number-reads
-use Rattle.frame.proofs.read.Reads as read-reads
-
-read-requires : tie.Need-read-requires
-read-requires c κs = search needs
-
-number-requires : tie.Need-number-requires
-number-requires c κs = search needs
 
 returns : tie.Need-returns
 returns c =
@@ -26,4 +16,4 @@ returns c =
     (read-in-order (a .channel) (now (a .bytes)) (r .result) (r .ensures))
 
 pub read-number-spec : {M : Type 1} → statement M
-read-number-spec = tie.close (tie.spec read-requires number-requires returns)
+read-number-spec = tie.close (tie.spec (λ c κs. search needs) (λ c κs. search needs) returns)

@@ -5,12 +5,6 @@ use Rattle.frame_claims.proofs.Witnesses.{reading-of}
 use borrow.Author.Needs.{needs}
 use Rattle.frame_claims.proofs.reading_of.Statement.{statement}
 use Rattle.frame_claims.proofs.reading_of.Tie as tie
-use Rattle.frame_claims.proofs.reading_of.Reads as reads
-use Rattle.frame_claims.proofs.reading_of.Lts as lts
-use Rattle.frame.proofs.read.Reads as read-reads
-
-read-requires : tie.Need-read-requires
-read-requires c κs = search needs
 
 returns : tie.Need-returns
 returns c =
@@ -19,4 +13,4 @@ returns c =
     reading-of (a .channel) (now (a .bytes)) (c .read .result) are (c .read .ensures)
 
 pub reading-of-spec : {M : Type 1} → statement M
-reading-of-spec = tie.close (tie.spec read-requires returns)
+reading-of-spec = tie.close (tie.spec (λ c κs. search needs) returns)

@@ -4,16 +4,6 @@ use Rattle.frame_claims.proofs.Witnesses.{payload-reread}
 use borrow.Author.Needs.{needs}
 use Rattle.frame_claims.proofs.reread_payload.Statement.{statement}
 use Rattle.frame_claims.proofs.reread_payload.Tie as tie
-use Rattle.frame_claims.proofs.reread_payload.Reads as reads
-use Rattle.frame_claims.proofs.reread_payload.Lts as lts
-use Rattle.frame.proofs.payload.Reads as payload-reads
-use Rattle.frame_claims.proofs.sent.Reads as sent-reads
-
-sent-requires : tie.Need-sent-requires
-sent-requires c κs = search needs
-
-payload-requires : tie.Need-payload-requires
-payload-requires c κs = search needs
 
 returns : tie.Need-returns
 returns c =
@@ -23,4 +13,4 @@ returns c =
     (c .payload .ensures .0)
 
 pub reread-payload-spec : {M : Type 1} → statement M
-reread-payload-spec = tie.close (tie.spec sent-requires payload-requires returns)
+reread-payload-spec = tie.close (tie.spec (λ c κs. search needs) (λ c κs. search needs) returns)

@@ -12,45 +12,12 @@ use Rattle.frame_claims.proofs.Witnesses.{not-rewritten, was-rewritten}
 use borrow.Author.Needs.{needs}
 use Rattle.frame_claims.proofs.rewritten.Statement.{statement}
 use Rattle.frame_claims.proofs.rewritten.Tie as tie
-use Rattle.frame_claims.proofs.rewritten.Reads as reads
-use Rattle.frame_claims.proofs.rewritten.Lts as lts
-use Rattle.frame.proofs.reader.Reading.header.Reads as header-reads
-use Rattle.frame.proofs.reader.Reading.number.Reads as reader-Reading-number-reads
-use Rattle.frame.proofs.payload.Reads as payload-reads
-use Rattle.frame.proofs.read.Reads as read-reads
-use Rattle.frame.proofs.writer.Writing.number.Reads as writer-Writing-number-reads
-use Rattle.frame.proofs.write.Reads as write-reads
-use Rattle.frame_claims.proofs.fields_of.Reads as fields-of-reads
-
-read-requires : tie.Need-read-requires
-read-requires c κs = search needs
-
-number-requires : tie.Need-number-requires
-number-requires c κs = search needs
 
 returns : tie.Need-returns
 returns c =
     let r = c .before .before .read in
     let a = c .before .before .before .before .before .args in
     not-rewritten (a .channel) (now (a .bytes)) (now (a .output)) (r .result) (r .ensures) (λ e. c .if1 .taken (c .before .number .ensures ∙ e))
-
-payload-requires : tie.Need-payload-requires
-payload-requires c κs = search needs
-
-header-requires : tie.Need-header-requires
-header-requires c κs = search needs
-
-fields-of-requires : tie.Need-fields-of-requires
-fields-of-requires c κs = search needs
-
-write-requires : tie.Need-write-requires
-write-requires c κs = search needs
-
-number-requires-2 : tie.Need-number-requires-2
-number-requires-2 c κs = search needs
-
-same-length : tie.Need-same-length
-same-length c = search needs
 
 returns-2 : tie.Need-returns-2
 returns-2 c =
@@ -73,13 +40,13 @@ pub rewritten-spec : {M : Type 1} → statement M
 rewritten-spec =
     tie.close
     (tie.spec
-    read-requires
-    number-requires
+    (λ c κs. search needs)
+    (λ c κs. search needs)
     returns
-    payload-requires
-    header-requires
-    fields-of-requires
-    write-requires
-    number-requires-2
-    same-length
+    (λ c κs. search needs)
+    (λ c κs. search needs)
+    (λ c κs. search needs)
+    (λ c κs. search needs)
+    (λ c κs. search needs)
+    (λ c. search needs)
     returns-2)

@@ -10,22 +10,6 @@ use Rattle.frame_claims.proofs.Witnesses.{size-within, was-sent}
 use borrow.Author.Needs.{needs}
 use Rattle.frame_claims.proofs.sent.Statement.{statement}
 use Rattle.frame_claims.proofs.sent.Tie as tie
-use Rattle.frame_claims.proofs.sent.Reads as reads
-use Rattle.frame_claims.proofs.sent.Lts as lts
-use Rattle.frame.proofs.writer.Writing.length.Reads as length-reads
-use Rattle.frame.proofs.write.Reads as write-reads
-
-write-requires : tie.Need-write-requires
-write-requires c κs = search needs
-
-length-requires : tie.Need-length-requires
-length-requires c κs = search needs
-
-sub-result : tie.Need-sub-result
-sub-result c = search needs
-
-part-result-start : tie.Need-part-result-start
-part-result-start c = search needs
 
 part-result-end : tie.Need-part-result-end
 part-result-end c =
@@ -50,4 +34,4 @@ returns c =
 pub sent-spec : {M : Type 1} → statement M
 sent-spec =
     tie.close
-    (tie.spec write-requires length-requires sub-result part-result-start part-result-end returns)
+    (tie.spec (λ c κs. search needs) (λ c κs. search needs) (λ c. search needs) (λ c. search needs) part-result-end returns)

@@ -7,19 +7,6 @@ use Rattle.frame_claims.proofs.Answers.{write-in-order, refused-unchang
 use borrow.Author.Needs.{needs}
 use Rattle.frame_claims.proofs.write_number.Statement.{statement}
 use Rattle.frame_claims.proofs.write_number.Tie as tie
-use Rattle.frame_claims.proofs.write_number.Reads as reads
-use Rattle.frame_claims.proofs.write_number.Lts as lts
-use Rattle.frame.proofs.writer.Writing.number.Reads as number-reads
-use Rattle.frame.proofs.write.Reads as write-reads
-
-write-requires : tie.Need-write-requires
-write-requires c κs = search needs
-
-number-requires : tie.Need-number-requires
-number-requires c κs = search needs
-
-same-length : tie.Need-same-length
-same-length c = search needs
 
 returns : tie.Need-returns
 returns c =
@@ -34,4 +21,4 @@ returns c =
     )
 
 pub write-number-spec : {M : Type 1} → statement M
-write-number-spec = tie.close (tie.spec write-requires number-requires same-length returns)
+write-number-spec = tie.close (tie.spec (λ c κs. search needs) (λ c κs. search needs) (λ c. search needs) returns)

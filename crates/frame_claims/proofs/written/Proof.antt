@@ -7,19 +7,6 @@ use Rattle.frame_claims.proofs.Witnesses.{wrote}
 use borrow.Author.Needs.{needs}
 use Rattle.frame_claims.proofs.written.Statement.{statement}
 use Rattle.frame_claims.proofs.written.Tie as tie
-use Rattle.frame_claims.proofs.written.Reads as reads
-use Rattle.frame_claims.proofs.written.Lts as lts
-use Rattle.frame.proofs.writer.Writing.length.Reads as length-reads
-use Rattle.frame.proofs.write.Reads as write-reads
-
-write-requires : tie.Need-write-requires
-write-requires c κs = search needs
-
-length-requires : tie.Need-length-requires
-length-requires c κs = search needs
-
-same-length : tie.Need-same-length
-same-length c = search needs
 
 returns : tie.Need-returns
 returns c =
@@ -33,4 +20,4 @@ returns c =
     (wrote (a .channel) (a .fields) payload output after (w .write .result) are (w .write .ensures))
 
 pub written-spec : {M : Type 1} → statement M
-written-spec = tie.close (tie.spec write-requires length-requires same-length returns)
+written-spec = tie.close (tie.spec (λ c κs. search needs) (λ c κs. search needs) (λ c. search needs) returns)

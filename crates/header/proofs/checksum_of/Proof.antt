@@ -8,12 +8,6 @@ use Rattle.checksum.specs.Checksums.{headerDivision}
 use Rattle.header.proofs.HeaderLaws.{covered-bits}
 use Rattle.header.proofs.checksum_of.Statement.{statement}
 use Rattle.header.proofs.checksum_of.Tie as tie
-use Rattle.header.proofs.checksum_of.Reads as reads
-use Rattle.header.proofs.checksum_of.Lts as lts
-use Rattle.checksum.proofs.header_checksum.Reads as header-checksum-reads
-
-header-checksum-requires : tie.Need-header-checksum-requires
-header-checksum-requires c κs = search needs
 
 returns : tie.Need-returns
 unfolding headerIn
@@ -23,4 +17,4 @@ returns c =
     fed ∙ ap headerDivision (covered-bits number)
 
 pub checksum-of-spec : {M : Type 1} → statement M
-checksum-of-spec = tie.close (tie.spec header-checksum-requires returns)
+checksum-of-spec = tie.close (tie.spec (λ c κs. search needs) returns)

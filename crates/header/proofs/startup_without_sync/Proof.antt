@@ -4,8 +4,6 @@ use mathlib.Core.Path.{_≡_}
 use mathlib.Core.Bool.{true, false}
 use Rattle.header.proofs.startup_without_sync.Statement.{statement}
 use Rattle.header.proofs.startup_without_sync.Tie as tie
-use Rattle.header.proofs.startup_without_sync.Reads as reads
-use Rattle.header.proofs.startup_without_sync.Lts as lts
 
 returns : tie.Need-returns
 returns c =

@@ -2,11 +2,6 @@
 use borrow.Author.Needs.{needs}
 use Rattle.measuring.proofs.no_sync_frame.Statement.{statement}
 use Rattle.measuring.proofs.no_sync_frame.Tie as tie
-use Rattle.measuring.proofs.no_sync_frame.Reads as reads
-use Rattle.measuring.proofs.no_sync_frame.Lts as lts
-use Rattle.measuring.proofs.frame_of.Reads as frame-of-reads
-use Rattle.slot.proofs.is_static.Reads as is-static-reads
-use Rattle.slot.proofs.status.Kept.is_frame.Reads as is-frame-reads
 use mathlib.Core.Path.{_≡_, sym, ap, _∙_}
 use mathlib.Core.Bool.{true, not}
 use borrow.Author.Tests.{not-true, not-false}
@@ -20,20 +15,8 @@ has-frame c = sym (c .before .is-frame .ensures) ∙ not-false (c .before .is-fr
 sync-is : (c : tie.After-frame-of) → frameOf (c .before .before .before .args .status) .sync ≡ c .frame-of .result .sync
 sync-is c = sym (ap (λ (h : Header). h .sync) (c .frame-of .ensures))
 
-is-frame-requires : tie.Need-is-frame-requires
-is-frame-requires c κs = search needs
-
-returns : tie.Need-returns
-returns c = search needs
-
-frame-of-requires : tie.Need-frame-of-requires
-frame-of-requires c κs = search needs
-
 returns-2 : tie.Need-returns-2
 returns-2 c = rw (has-frame (c .before .before .before), sync-is (c .before .before) ∙ not-true (c .before .before .frame-of .result .sync) (c .if2 .taken))
-
-is-static-requires : tie.Need-is-static-requires
-is-static-requires c κs = search needs
 
 returns-3 : tie.Need-returns-3
 returns-3 c = rw (has-frame (c .before .before .before .before), sync-is (c .before .before .before) ∙ not-false (c .before .before .before .frame-of .result .sync) (c .before .if2 .left)) (ap not (c .is-static .ensures))
@@ -41,4 +24,4 @@ returns-3 c = rw (has-frame (c .before .before .before .before), sync-is (c .bef
 pub no-sync-frame-spec : {M : Type 1} → statement M
 no-sync-frame-spec =
     tie.close
-    (tie.spec is-frame-requires returns frame-of-requires returns-2 is-static-requires returns-3)
+    (tie.spec (λ c κs. search needs) (λ c. search needs) (λ c κs. search needs) returns-2 (λ c κs. search needs) returns-3)

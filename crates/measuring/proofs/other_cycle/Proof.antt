@@ -2,22 +2,12 @@
 use borrow.Author.Needs.{needs}
 use Rattle.measuring.proofs.other_cycle.Statement.{statement}
 use Rattle.measuring.proofs.other_cycle.Tie as tie
-use Rattle.measuring.proofs.other_cycle.Reads as reads
-use Rattle.measuring.proofs.other_cycle.Lts as lts
-use Rattle.measuring.proofs.frame_of.Reads as frame-of-reads
-use Rattle.clock.proofs.state.Clock.current_cycle.Reads as current-cycle-reads
 use mathlib.Core.Path.{ap, _∙_}
 use mathlib.Core.Bool.{not}
 use lib.Dec.{eqb}
 use Rattle.header.specs.declared.Header.{Header}
 use Rattle.header.specs.declared.Cycle.{Cycle}
 use Rattle.measuring.specs.Measuring.{frameOf}
-
-frame-of-requires : tie.Need-frame-of-requires
-frame-of-requires c κs = search needs
-
-current-cycle-requires : tie.Need-current-cycle-requires
-current-cycle-requires c κs = search needs
 
 returns : tie.Need-returns
 returns c =
@@ -27,4 +17,4 @@ returns c =
     ∙ ap (λ (k : Cycle). not (eqb (frameOf (c .before .before .before .before .args .status) .cycle .0) (k .0))) (o .ensures)
 
 pub other-cycle-spec : {M : Type 1} → statement M
-other-cycle-spec = tie.close (tie.spec frame-of-requires current-cycle-requires returns)
+other-cycle-spec = tie.close (tie.spec (λ c κs. search needs) (λ c κs. search needs) returns)

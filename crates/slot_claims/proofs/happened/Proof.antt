@@ -6,14 +6,6 @@ use lib.Dec.{eqb}
 use borrow.Author.Needs.{needs}
 use Rattle.slot_claims.proofs.happened.Statement.{statement}
 use Rattle.slot_claims.proofs.happened.Tie as tie
-use Rattle.slot_claims.proofs.happened.Reads as reads
-use Rattle.slot_claims.proofs.happened.Lts as lts
-use Rattle.slot_events.proofs.arrived.Reads as arrived-reads
-use Rattle.slot_events.proofs.boundary.Reads as boundary-reads
-use Rattle.slot_events.proofs.sent.Reads as sent-reads
-
-boundary-requires : tie.Need-boundary-requires
-boundary-requires c κs = search needs
 
 returns : tie.Need-returns
 returns c =
@@ -21,18 +13,12 @@ returns c =
     let zero : eqb (a .number) 0 ≡ true = eq-eqb (a .number) 0 (c .before .before .if1 .taken) in
     c .before .boundary .ensures .leaves ∙ rw zero
 
-sent-requires : tie.Need-sent-requires
-sent-requires c κs = search needs
-
 returns-2 : tie.Need-returns-2
 returns-2 c =
     let a = c .before .before .before .before .before .args in
     let not-zero : eqb (a .number) 0 ≡ false = ne-eqb (a .number) 0 (c .before .before .before .if1 .left) in
     let one : eqb (a .number) 1 ≡ true = eq-eqb (a .number) 1 (c .before .before .if2 .taken) in
     c .before .sent .ensures .leaves ∙ rw (not-zero, one)
-
-arrived-requires : tie.Need-arrived-requires
-arrived-requires c κs = search needs
 
 returns-3 : tie.Need-returns-3
 returns-3 c =
@@ -44,4 +30,4 @@ returns-3 c =
 pub happened-spec : {M : Type 1} → statement M
 happened-spec =
     tie.close
-    (tie.spec boundary-requires returns sent-requires returns-2 arrived-requires returns-3)
+    (tie.spec (λ c κs. search needs) returns (λ c κs. search needs) returns-2 (λ c κs. search needs) returns-3)

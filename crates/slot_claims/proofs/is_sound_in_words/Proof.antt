@@ -4,12 +4,6 @@ use Rattle.slot_claims.proofs.Sound.{sound-exactly}
 use borrow.Author.Needs.{needs}
 use Rattle.slot_claims.proofs.is_sound_in_words.Statement.{statement}
 use Rattle.slot_claims.proofs.is_sound_in_words.Tie as tie
-use Rattle.slot_claims.proofs.is_sound_in_words.Reads as reads
-use Rattle.slot_claims.proofs.is_sound_in_words.Lts as lts
-use Rattle.slot.proofs.is_sound.Reads as is-sound-reads
-
-is-sound-requires : tie.Need-is-sound-requires
-is-sound-requires c κs = search needs
 
 returns : tie.Need-returns
 returns c =
@@ -17,4 +11,4 @@ returns c =
     (λ t. exactly .0 (sym (c .«is-sound» .ensures) ∙ t), λ w. c .«is-sound» .ensures ∙ exactly .1 w)
 
 pub is-sound-in-words-spec : {M : Type 1} → statement M
-is-sound-in-words-spec = tie.close (tie.spec is-sound-requires returns)
+is-sound-in-words-spec = tie.close (tie.spec (λ c κs. search needs) returns)

@@ -4,15 +4,9 @@ use Rattle.slot_claims.proofs.Witnesses.{judged-well}
 use borrow.Author.Needs.{needs}
 use Rattle.slot_claims.proofs.judged_boundary.Statement.{statement}
 use Rattle.slot_claims.proofs.judged_boundary.Tie as tie
-use Rattle.slot_claims.proofs.judged_boundary.Reads as reads
-use Rattle.slot_claims.proofs.judged_boundary.Lts as lts
-use Rattle.slot_events.proofs.boundary.Reads as boundary-reads
-
-boundary-requires : tie.Need-boundary-requires
-boundary-requires c κs = search needs
 
 returns : tie.Need-returns
 returns c = judged-well (c .before .args .status) boundaryActivity (c .boundary .result) (c .boundary .ensures)
 
 pub judged-boundary-spec : {M : Type 1} → statement M
-judged-boundary-spec = tie.close (tie.spec boundary-requires returns)
+judged-boundary-spec = tie.close (tie.spec (λ c κs. search needs) returns)

@@ -5,19 +5,9 @@ use Rattle.slot_claims.proofs.SoundCalls.{no-status-unsound}
 use borrow.Author.Needs.{needs}
 use Rattle.slot_claims.proofs.none_is_sound.Statement.{statement}
 use Rattle.slot_claims.proofs.none_is_sound.Tie as tie
-use Rattle.slot_claims.proofs.none_is_sound.Reads as reads
-use Rattle.slot_claims.proofs.none_is_sound.Lts as lts
-use Rattle.slot.proofs.is_sound.Reads as is-sound-reads
-use Rattle.slot.proofs.status.Status.none.Reads as none-reads
-
-none-requires : tie.Need-none-requires
-none-requires c κs = search needs
-
-is-sound-requires : tie.Need-is-sound-requires
-is-sound-requires c κs = search needs
 
 returns : tie.Need-returns
 returns c = c .«is-sound» .ensures ∙ ap sound (c .before .none .ensures) ∙ no-status-unsound
 
 pub none-is-sound-spec : {M : Type 1} → statement M
-none-is-sound-spec = tie.close (tie.spec none-requires is-sound-requires returns)
+none-is-sound-spec = tie.close (tie.spec (λ c κs. search needs) (λ c κs. search needs) returns)

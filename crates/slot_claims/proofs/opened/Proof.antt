@@ -6,12 +6,6 @@ use Rattle.slot_claims.proofs.Witnesses.{opened-well}
 use borrow.Author.Needs.{needs}
 use Rattle.slot_claims.proofs.opened.Statement.{statement}
 use Rattle.slot_claims.proofs.opened.Tie as tie
-use Rattle.slot_claims.proofs.opened.Reads as reads
-use Rattle.slot_claims.proofs.opened.Lts as lts
-use Rattle.slot.proofs.open_slot.Reads as open-slot-reads
-
-open-slot-requires : tie.Need-open-slot-requires
-open-slot-requires c κs = search needs
 
 returns : tie.Need-returns
 returns c =
@@ -20,4 +14,4 @@ returns c =
     opened-well (a .settings) (a .channel) (a .slot) (a .cycle) (c .«open-slot» .result) typed (c .«open-slot» .ensures)
 
 pub opened-spec : {M : Type 1} → statement M
-opened-spec = tie.close (tie.spec open-slot-requires returns)
+opened-spec = tie.close (tie.spec (λ c κs. search needs) returns)

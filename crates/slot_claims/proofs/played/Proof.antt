@@ -13,19 +13,12 @@ use Rattle.slot_claims.proofs.Witnesses.{left, was-played, piece, behin
 use Rattle.slot_claims.proofs.played.Statement.{statement}
 use Rattle.slot_claims.proofs.played.Tie as tie
 use Rattle.slot_claims.proofs.played.Reads as reads
-use Rattle.slot_claims.proofs.played.Lts as lts
-use Rattle.slot.proofs.open_slot.Reads as open-slot-reads
-use Rattle.slot_claims.proofs.end_of.Reads as end-of-reads
-use Rattle.slot_claims.proofs.happened.Reads as happened-reads
 
 abbrev Inv-loop : tie.InvT-loop
 Inv-loop channel numbers bytes status₀ i₀ at₀ status i at = (i ≤ length numbers) × (at ≤ length bytes) × (left status₀ (eventsOf numbers bytes) ≡ left status (eventsOf (drop i numbers) (drop at bytes)))
 
 abbrev μ-loop : tie.MeasureT-loop
 μ-loop channel numbers bytes status₀ i₀ at₀ status i at = length numbers - i
-
-open-slot-requires : tie.Need-open-slot-requires Inv-loop μ-loop
-open-slot-requires c κs = search needs
 
 loop-holds : tie.Need-loop-holds Inv-loop μ-loop
 loop-holds c = (omega arith, omega arith, refl)
@@ -36,9 +29,6 @@ mul-number c = omega arith
 shared-slice-read-number : tie.Need-shared-slice-read-number Inv-loop μ-loop
 shared-slice-read-number c = omega arith
 
-end-of-requires : tie.Need-end-of-requires Inv-loop μ-loop
-end-of-requires c κs = search needs
-
 sub-happened : tie.Need-sub-happened Inv-loop μ-loop
 sub-happened c = omega (arith, c .«end-of» .ensures)
 
@@ -47,9 +37,6 @@ part-happened-start c = omega (arith, c .«end-of» .ensures)
 
 part-happened-end : tie.Need-part-happened-end Inv-loop μ-loop
 part-happened-end c = omega (arith, c .«end-of» .ensures)
-
-happened-requires : tie.Need-happened-requires Inv-loop μ-loop
-happened-requires c κs = search needs
 
 -- where the loop is entered the prover still reads that lengths fit
 room : (c : tie.In-loop Inv-loop μ-loop) → c .before .loop .i + 1 < 2 ^ 64
@@ -91,15 +78,15 @@ played-spec =
     (tie.spec
     Inv-loop
     μ-loop
-    open-slot-requires
+    (λ c κs. search needs)
     loop-holds
     mul-number
     shared-slice-read-number
-    end-of-requires
+    (λ c κs. search needs)
     sub-happened
     part-happened-start
     part-happened-end
-    happened-requires
+    (λ c κs. search needs)
     add-i
     loop-less
     loop-again

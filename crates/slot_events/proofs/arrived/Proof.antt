@@ -15,24 +15,9 @@ use Rattle.slot_events.proofs.EventLaws.{brings-refusal, after-refusal,
 use borrow.Author.Needs.{needs}
 use Rattle.slot_events.proofs.arrived.Statement.{statement}
 use Rattle.slot_events.proofs.arrived.Tie as tie
-use Rattle.slot_events.proofs.arrived.Reads as reads
-use Rattle.slot_events.proofs.arrived.Lts as lts
-use Rattle.frame.proofs.read_on.Reads as read-on-reads
-use Rattle.slot.proofs.first_miss.Reads as first-miss-reads
-use Rattle.slot_events.proofs.kept_by.Reads as kept-by-reads
-use Rattle.slot_events.proofs.not_sound.Reads as not-sound-reads
-use Rattle.slot_events.proofs.recorded.Reads as recorded-reads
-use Rattle.slot_events.proofs.with_arrival.Reads as with-arrival-reads
-use Rattle.slot.proofs.is_sound.Reads as is-sound-reads
 
 good : (c : tie.Else1) → sound (c .before .before .before .args .status) ≡ true
 good c = sym (c .before .«is-sound» .ensures) ∙ not-false _ (c .if1 .left)
-
-is-sound-requires : tie.Need-is-sound-requires
-is-sound-requires c κs = search needs
-
-not-sound-requires : tie.Need-not-sound-requires
-not-sound-requires c κs = search needs
 
 returns : tie.Need-returns
 returns c =
@@ -40,18 +25,6 @@ returns c =
     let unsound : sound (a .status) ≡ false = sym (c .before .before .«is-sound» .ensures) ∙ not-true _ (c .before .if1 .taken) in
     let e = arrival (now (a .bytes)) in
     subst (EventSays (a .status) e) (sym (c .«not-sound» .ensures)) (event-refused (a .status) e unsound)
-
-read-on-requires : tie.Need-read-on-requires
-read-on-requires c κs = search needs
-
-enum-known-reading : tie.Need-enum-known-reading
-enum-known-reading c = search needs
-
-with-arrival-requires : tie.Need-with-arrival-requires
-with-arrival-requires c κs = search needs
-
-recorded-requires : tie.Need-recorded-requires
-recorded-requires c κs = search needs
 
 returns-2 : tie.Need-returns-2
 returns-2 c =
@@ -62,18 +35,6 @@ returns-2 c =
     (not-accepted (here .«read-on» .result) (c .before .before .match .keys2)) in
     subst (EventSays (a .status) e) (sym (c .recorded .ensures))
     (event-recorded (a .status) e _ (good (here .before)) (after-refusal (a .status) (c .before .«with-arrival» .result) (c .before .«with-arrival» .ensures) ∙ sym (ap (joined (a .status)) brings)))
-
-first-miss-requires : tie.Need-first-miss-requires
-first-miss-requires c κs = search needs
-
-kept-by-requires : tie.Need-kept-by-requires
-kept-by-requires c κs = search needs
-
-with-arrival-requires-2 : tie.Need-with-arrival-requires-2
-with-arrival-requires-2 c κs = search needs
-
-recorded-requires-2 : tie.Need-recorded-requires-2
-recorded-requires-2 c κs = search needs
 
 returns-3 : tie.Need-returns-3
 returns-3 c =
@@ -93,16 +54,16 @@ pub arrived-spec : {M : Type 1} → statement M
 arrived-spec =
     tie.close
     (tie.spec
-    is-sound-requires
-    not-sound-requires
+    (λ c κs. search needs)
+    (λ c κs. search needs)
     returns
-    read-on-requires
-    enum-known-reading
-    with-arrival-requires
-    recorded-requires
+    (λ c κs. search needs)
+    (λ c. search needs)
+    (λ c κs. search needs)
+    (λ c κs. search needs)
     returns-2
-    first-miss-requires
-    kept-by-requires
-    with-arrival-requires-2
-    recorded-requires-2
+    (λ c κs. search needs)
+    (λ c κs. search needs)
+    (λ c κs. search needs)
+    (λ c κs. search needs)
     returns-3)

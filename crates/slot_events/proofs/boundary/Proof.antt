@@ -9,26 +9,12 @@ use Rattle.slot_events.proofs.EventLaws.{after-boundary, event-refused,
 use borrow.Author.Needs.{needs}
 use Rattle.slot_events.proofs.boundary.Statement.{statement}
 use Rattle.slot_events.proofs.boundary.Tie as tie
-use Rattle.slot_events.proofs.boundary.Reads as reads
-use Rattle.slot_events.proofs.boundary.Lts as lts
-use Rattle.slot_events.proofs.not_sound.Reads as not-sound-reads
-use Rattle.slot_events.proofs.recorded.Reads as recorded-reads
-use Rattle.slot.proofs.is_sound.Reads as is-sound-reads
-
-is-sound-requires : tie.Need-is-sound-requires
-is-sound-requires c κs = search needs
-
-not-sound-requires : tie.Need-not-sound-requires
-not-sound-requires c κs = search needs
 
 returns : tie.Need-returns
 returns c =
     let s = c .before .before .before .args .status in
     let unsound : sound s ≡ false = sym (c .before .before .«is-sound» .ensures) ∙ not-true _ (c .before .if1 .taken) in
     subst (EventSays s boundaryActivity) (sym (c .«not-sound» .ensures)) (event-refused s boundaryActivity unsound)
-
-recorded-requires : tie.Need-recorded-requires
-recorded-requires c κs = search needs
 
 returns-2 : tie.Need-returns-2
 returns-2 c =
@@ -38,4 +24,4 @@ returns-2 c =
 
 pub boundary-spec : {M : Type 1} → statement M
 boundary-spec =
-    tie.close (tie.spec is-sound-requires not-sound-requires returns recorded-requires returns-2)
+    tie.close (tie.spec (λ c κs. search needs) (λ c κs. search needs) returns (λ c κs. search needs) returns-2)

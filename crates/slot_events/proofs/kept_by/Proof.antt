@@ -6,12 +6,6 @@ use Rattle.slot.specs.Judging.{isReason}
 use borrow.Author.Needs.{needs}
 use Rattle.slot_events.proofs.kept_by.Statement.{statement}
 use Rattle.slot_events.proofs.kept_by.Tie as tie
-use Rattle.slot_events.proofs.kept_by.Reads as reads
-use Rattle.slot_events.proofs.kept_by.Lts as lts
-use Rattle.slot.proofs.status.Reason.is_reason.Reads as is-reason-reads
-
-is-reason-requires : tie.Need-is-reason-requires
-is-reason-requires c κs = search needs
 
 returns : tie.Need-returns
 returns c =
@@ -24,4 +18,4 @@ returns-2 c =
     sym (ap (λ (b : Bool). cond b Nothing (Frame (c .before .before .args .header))) none)
 
 pub kept-by-spec : {M : Type 1} → statement M
-kept-by-spec = tie.close (tie.spec is-reason-requires returns returns-2)
+kept-by-spec = tie.close (tie.spec (λ c κs. search needs) returns returns-2)

@@ -10,34 +10,12 @@ use Rattle.slot_events.proofs.EventLaws.{first-reason-none, first-kept-
 use borrow.Author.Needs.{needs}
 use Rattle.slot_events.proofs.sent.Statement.{statement}
 use Rattle.slot_events.proofs.sent.Tie as tie
-use Rattle.slot_events.proofs.sent.Reads as reads
-use Rattle.slot_events.proofs.sent.Lts as lts
-use Rattle.slot_events.proofs.not_sound.Reads as not-sound-reads
-use Rattle.slot_events.proofs.recorded.Reads as recorded-reads
-use Rattle.slot.proofs.is_sound.Reads as is-sound-reads
-use Rattle.slot.proofs.status.Status.has_arrival.Reads as has-arrival-reads
-use Rattle.slot_events.proofs.either.Reads as either-reads
-
-is-sound-requires : tie.Need-is-sound-requires
-is-sound-requires c κs = search needs
-
-not-sound-requires : tie.Need-not-sound-requires
-not-sound-requires c κs = search needs
 
 returns : tie.Need-returns
 returns c =
     let s = c .before .before .before .args .status in
     let unsound : sound s ≡ false = sym (c .before .before .«is-sound» .ensures) ∙ not-true _ (c .before .if1 .taken) in
     subst (EventSays s ownSending) (sym (c .«not-sound» .ensures)) (event-refused s ownSending unsound)
-
-has-arrival-requires : tie.Need-has-arrival-requires
-has-arrival-requires c κs = search needs
-
-either-requires : tie.Need-either-requires
-either-requires c κs = search needs
-
-recorded-requires : tie.Need-recorded-requires
-recorded-requires c κs = search needs
 
 returns-2 : tie.Need-returns-2
 returns-2 c =
@@ -52,10 +30,10 @@ pub sent-spec : {M : Type 1} → statement M
 sent-spec =
     tie.close
     (tie.spec
-    is-sound-requires
-    not-sound-requires
+    (λ c κs. search needs)
+    (λ c κs. search needs)
     returns
-    has-arrival-requires
-    either-requires
-    recorded-requires
+    (λ c κs. search needs)
+    (λ c κs. search needs)
+    (λ c κs. search needs)
     returns-2)

@@ -5,34 +5,6 @@ use Rattle.slot.specs.Judging.{isReason, isFrame, firstReason, firstKept}
 use borrow.Author.Needs.{needs}
 use Rattle.slot_events.proofs.with_arrival.Statement.{statement}
 use Rattle.slot_events.proofs.with_arrival.Tie as tie
-use Rattle.slot_events.proofs.with_arrival.Reads as reads
-use Rattle.slot_events.proofs.with_arrival.Lts as lts
-use Rattle.slot.proofs.status.Kept.is_frame.Reads as is-frame-reads
-use Rattle.slot.proofs.status.Kept.or_later.Reads as status-Kept-or-later-reads
-use Rattle.slot.proofs.status.Reason.is_reason.Reads as is-reason-reads
-use Rattle.slot.proofs.status.Reason.or_later.Reads as status-Reason-or-later-reads
-use Rattle.slot_events.proofs.either.Reads as either-reads
-
-is-reason-requires : tie.Need-is-reason-requires
-is-reason-requires c κs = search needs
-
-is-frame-requires : tie.Need-is-frame-requires
-is-frame-requires c κs = search needs
-
-either-requires : tie.Need-either-requires
-either-requires c κs = search needs
-
-either-requires-2 : tie.Need-either-requires-2
-either-requires-2 c κs = search needs
-
-either-requires-3 : tie.Need-either-requires-3
-either-requires-3 c κs = search needs
-
-or-later-requires : tie.Need-or-later-requires
-or-later-requires c κs = search needs
-
-or-later-requires-2 : tie.Need-or-later-requires-2
-or-later-requires-2 c κs = search needs
 
 returns : tie.Need-returns
 returns c =
@@ -66,11 +38,11 @@ pub with-arrival-spec : {M : Type 1} → statement M
 with-arrival-spec =
     tie.close
     (tie.spec
-    is-reason-requires
-    is-frame-requires
-    either-requires
-    either-requires-2
-    either-requires-3
-    or-later-requires
-    or-later-requires-2
+    (λ c κs. search needs)
+    (λ c κs. search needs)
+    (λ c κs. search needs)
+    (λ c κs. search needs)
+    (λ c κs. search needs)
+    (λ c κs. search needs)
+    (λ c κs. search needs)
     returns)

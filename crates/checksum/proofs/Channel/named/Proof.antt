@@ -4,8 +4,6 @@ use borrow.Author.Tests.{ne-eqb}
 use Rattle.checksum.specs.Channel.{namedBy, notAChannel, channelOf}
 use Rattle.checksum.proofs.Channel.named.Statement.{statement}
 use Rattle.checksum.proofs.Channel.named.Tie as tie
-use Rattle.checksum.proofs.Channel.named.Reads as reads
-use Rattle.checksum.proofs.Channel.named.Lts as lts
 
 returns : tie.Need-returns
 unfolding namedBy notAChannel channelOf

@@ -6,14 +6,6 @@ use Rattle.checksum.proofs.ChannelLaws.{number-names}
 use borrow.Author.Needs.{needs}
 use Rattle.checksum.proofs.Channel.number.Statement.{statement}
 use Rattle.checksum.proofs.Channel.number.Tie as tie
-use Rattle.checksum.proofs.Channel.number.Reads as reads
-use Rattle.checksum.proofs.Channel.number.Lts as lts
-
-enum-told : tie.Need-enum-told
-enum-told c = search needs
-
-enum-told-2 : tie.Need-enum-told-2
-enum-told-2 c = search needs
 
 returns : tie.Need-returns
 returns c =
@@ -26,4 +18,4 @@ returns-2 c =
     (number, ap namedBy number ∙ number-names (c .before .before .args .self))
 
 pub number-spec : {M : Type 1} → statement M
-number-spec = tie.close (tie.spec enum-told enum-told-2 returns returns-2)
+number-spec = tie.close (tie.spec (λ c. search needs) (λ c. search needs) returns returns-2)

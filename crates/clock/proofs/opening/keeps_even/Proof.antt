@@ -2,10 +2,6 @@
 use borrow.Author.Needs.{needs}
 use Rattle.clock.proofs.opening.keeps_even.Statement.{statement}
 use Rattle.clock.proofs.opening.keeps_even.Tie as tie
-use Rattle.clock.proofs.opening.keeps_even.Reads as reads
-use Rattle.clock.proofs.opening.keeps_even.Lts as lts
-use Rattle.clock.proofs.state.CycleOrNone.is_cycle.Reads as is-cycle-reads
-use Rattle.clock.proofs.state.is_odd.Reads as is-odd-reads
 use mathlib.Core.Path.{_≡_, sym, _∙_}
 use mathlib.Core.Bool.{true}
 use borrow.Author.Tests.{not-true, not-false, eqb-true}
@@ -16,9 +12,6 @@ use Rattle.clock.specs.State.{isOdd}
 is-odd-cycle : (c : tie.Else1) → isOdd (c .before .before .args .cycle) ≡ true
 is-odd-cycle c = sym (c .before .is-odd .ensures) ∙ not-false (c .before .is-odd .result) (c .if1 .left)
 
-is-odd-requires : tie.Need-is-odd-requires
-is-odd-requires c κs = search needs
-
 returns : tie.Need-returns
 returns c = rw (sym (c .before .is-odd .ensures) ∙ not-true (c .before .is-odd .result) (c .if1 .taken))
 
@@ -28,12 +21,9 @@ sub-t7 c =
     let odd : n % 2 ≡ 1 = eqb-true (n % 2) 1 (is-odd-cycle (c .before)) in
     omega arith
 
-is-cycle-requires : tie.Need-is-cycle-requires
-is-cycle-requires c κs = search needs
-
 returns-2 : tie.Need-returns-2
 returns-2 c = rw (is-odd-cycle (c .before .before)) (c .is-cycle .ensures)
 
 pub keeps-even-spec : {M : Type 1} → statement M
 keeps-even-spec =
-    tie.close (tie.spec is-odd-requires returns sub-t7 is-cycle-requires returns-2)
+    tie.close (tie.spec (λ c κs. search needs) returns sub-t7 (λ c κs. search needs) returns-2)

@@ -2,13 +2,6 @@
 use borrow.Author.Needs.{needs}
 use Rattle.clock.proofs.opening.open_cycle.Statement.{statement}
 use Rattle.clock.proofs.opening.open_cycle.Tie as tie
-use Rattle.clock.proofs.opening.open_cycle.Reads as reads
-use Rattle.clock.proofs.opening.open_cycle.Lts as lts
-use Rattle.clock.proofs.opening.opened_on.Reads as opened-on-reads
-use Rattle.clock.proofs.opening.refused.Reads as refused-reads
-use Rattle.clock.proofs.sound.is_sound.Reads as is-sound-reads
-use Rattle.clock.proofs.state.CycleOrNone.is_there.Reads as is-there-reads
-use Rattle.header.proofs.Cycle.is_too_high.Reads as is-too-high-reads
 use mathlib.Core.Path.{_≡_, refl, sym, ap, subst, _∙_}
 use mathlib.Core.Bool.{true, false, not}
 use borrow.Author.Tests.{not-true, not-false}
@@ -31,24 +24,12 @@ is-a-cycle c = sym (c .before .is-too-high .ensures) ∙ c .if2 .left
 
 -- ---- each return
 
-is-sound-requires : tie.Need-is-sound-requires
-is-sound-requires c κs = search needs
-
-refused-requires : tie.Need-refused-requires
-refused-requires c κs = search needs
-
 returns : tie.Need-returns
 returns c =
     let a = c .before .before .before .args in
     let unsound : sound (a .clock) ≡ false = sym (c .before .before .is-sound .ensures) ∙ not-true (c .before .before .is-sound .result) (c .before .if1 .taken) in
     let number : first (openingRefusals (a .clock) (a .cycle)) ≡ 23 = first-here 23 _ (ap not unsound) in
     subst (OpenCycleSays (a .clock) (a .cycle)) (sym (c .refused .ensures)) (open-says (a .clock) (a .cycle) 23 NotSound (a .clock) number refl refl)
-
-is-too-high-requires : tie.Need-is-too-high-requires
-is-too-high-requires c κs = search needs
-
-refused-requires-2 : tie.Need-refused-requires-2
-refused-requires-2 c κs = search needs
 
 returns-2 : tie.Need-returns-2
 returns-2 c =
@@ -57,12 +38,6 @@ returns-2 c =
     let number : first (openingRefusals (a .clock) (a .cycle)) ≡ 11 = first-skip 23 _ (ap not (is-sound (c .before .before .before))) ∙ first-here 11 _ high in
     subst (OpenCycleSays (a .clock) (a .cycle)) (sym (c .refused2 .ensures)) (open-says (a .clock) (a .cycle) 11 CycleTooHigh (a .clock) number refl refl)
 
-is-there-requires : tie.Need-is-there-requires
-is-there-requires c κs = search needs
-
-refused-requires-3 : tie.Need-refused-requires-3
-refused-requires-3 c κs = search needs
-
 returns-3 : tie.Need-returns-3
 returns-3 c =
     let a = c .before .before .before .before .before .before .before .args in
@@ -70,9 +45,6 @@ returns-3 c =
     let number : first (openingRefusals (a .clock) (a .cycle)) ≡ 19 =
     first-skip 23 _ (ap not (is-sound (c .before .before .before .before .before))) ∙ first-skip 11 _ (is-a-cycle (c .before .before .before)) ∙ first-here 19 _ already in
     subst (OpenCycleSays (a .clock) (a .cycle)) (sym (c .refused3 .ensures)) (open-says (a .clock) (a .cycle) 19 OpenAlready (a .clock) number refl refl)
-
-opened-on-requires : tie.Need-opened-on-requires
-opened-on-requires c κs = search needs
 
 returns-4 : tie.Need-returns-4
 returns-4 c =
@@ -86,14 +58,14 @@ pub open-cycle-spec : {M : Type 1} → statement M
 open-cycle-spec =
     tie.close
     (tie.spec
-    is-sound-requires
-    refused-requires
+    (λ c κs. search needs)
+    (λ c κs. search needs)
     returns
-    is-too-high-requires
-    refused-requires-2
+    (λ c κs. search needs)
+    (λ c κs. search needs)
     returns-2
-    is-there-requires
-    refused-requires-3
+    (λ c κs. search needs)
+    (λ c κs. search needs)
     returns-3
-    opened-on-requires
+    (λ c κs. search needs)
     returns-4)

@@ -2,17 +2,7 @@
 use borrow.Author.Needs.{needs}
 use Rattle.clock.proofs.opening.opened_on.Statement.{statement}
 use Rattle.clock.proofs.opening.opened_on.Tie as tie
-use Rattle.clock.proofs.opening.opened_on.Reads as reads
-use Rattle.clock.proofs.opening.opened_on.Lts as lts
-use Rattle.clock.proofs.opening.even_after.Reads as even-after-reads
-use Rattle.sync_list.proofs.list.SyncList.empty.Reads as empty-reads
 use Rattle.clock.specs.declared.state.CycleOrNone.the-variants.{Is}
-
-even-after-requires : tie.Need-even-after-requires
-even-after-requires c κs = search needs
-
-empty-requires : tie.Need-empty-requires
-empty-requires c κs = search needs
 
 returns : tie.Need-returns
 returns c =
@@ -27,4 +17,4 @@ returns c =
     }
 
 pub opened-on-spec : {M : Type 1} → statement M
-opened-on-spec = tie.close (tie.spec even-after-requires empty-requires returns)
+opened-on-spec = tie.close (tie.spec (λ c κs. search needs) (λ c κs. search needs) returns)

@@ -2,14 +2,6 @@
 use borrow.Author.Needs.{needs}
 use Rattle.clock.proofs.sound.is_sound.Statement.{statement}
 use Rattle.clock.proofs.sound.is_sound.Tie as tie
-use Rattle.clock.proofs.sound.is_sound.Reads as reads
-use Rattle.clock.proofs.sound.is_sound.Lts as lts
-use Rattle.clock.proofs.sound.cycle_sound.Reads as cycle-sound-reads
-use Rattle.clock.proofs.sound.rate_sound.Reads as rate-sound-reads
-use Rattle.settings.proofs.Settings.first_out_of_range.Reads as first-out-of-range-reads
-use Rattle.settings.proofs.Settings.rate_limit.Reads as rate-limit-reads
-use Rattle.settings.proofs.Settings.sync_id_limit.Reads as sync-id-limit-reads
-use Rattle.sync_list.proofs.list.SyncList.is_sound.Reads as is-sound-reads
 use mathlib.Core.Path.{_≡_, sym, ap, _∙_}
 use mathlib.Core.Bool.{true, false}
 use borrow.Author.Tests.{not-true, not-false}
@@ -44,44 +36,20 @@ odd-sound c = odd-is (c .before) ∙ not-false (c .before .is-sound2 .result) (c
 
 -- ---- each return
 
-first-out-of-range-requires : tie.Need-first-out-of-range-requires
-first-out-of-range-requires c κs = search needs
-
 returns : tie.Need-returns
 returns c = rw (out-of-range (c .before .before .before .before .before .args .clock .settings) (c .before .first-out-of-range .result) (c .before .first-out-of-range .ensures) (c .if1 .taken))
-
-cycle-sound-requires : tie.Need-cycle-sound-requires
-cycle-sound-requires c κs = search needs
 
 returns-2 : tie.Need-returns-2
 returns-2 c = rw (settings-in-range (c .before .before), sym (c .before .cycle-sound .ensures) ∙ not-true (c .before .cycle-sound .result) (c .if2 .taken))
 
-cycle-sound-requires-2 : tie.Need-cycle-sound-requires-2
-cycle-sound-requires-2 c κs = search needs
-
 returns-3 : tie.Need-returns-3
 returns-3 c = rw (settings-in-range (c .before .before .before .before), opened-sound (c .before .before), sym (c .before .cycle-sound2 .ensures) ∙ not-true (c .before .cycle-sound2 .result) (c .if3 .taken))
-
-sync-id-limit-requires : tie.Need-sync-id-limit-requires
-sync-id-limit-requires c κs = search needs
-
-is-sound-requires : tie.Need-is-sound-requires
-is-sound-requires c κs = search needs
 
 returns-4 : tie.Need-returns-4
 returns-4 c = rw (settings-in-range (c .before .before .before .before .before .before .before), opened-sound (c .before .before .before .before .before), closed-sound (c .before .before .before), even-is (c .before) ∙ not-true (c .before .is-sound .result) (c .if4 .taken))
 
-is-sound-requires-2 : tie.Need-is-sound-requires-2
-is-sound-requires-2 c κs = search needs
-
 returns-5 : tie.Need-returns-5
 returns-5 c = rw (settings-in-range (c .before .before .before .before .before .before .before .before .before), opened-sound (c .before .before .before .before .before .before .before), closed-sound (c .before .before .before .before .before), even-sound (c .before .before), odd-is (c .before) ∙ not-true (c .before .is-sound2 .result) (c .if5 .taken))
-
-rate-limit-requires : tie.Need-rate-limit-requires
-rate-limit-requires c κs = search needs
-
-rate-sound-requires : tie.Need-rate-sound-requires
-rate-sound-requires c κs = search needs
 
 returns-6 : tie.Need-returns-6
 returns-6 c = rw (settings-in-range (c .before .before .before .before .before .before .before .before .before .before .before), opened-sound (c .before .before .before .before .before .before .before .before .before), closed-sound (c .before .before .before .before .before .before .before), even-sound (c .before .before .before .before), odd-sound (c .before .before))
@@ -91,17 +59,17 @@ pub is-sound-spec : {M : Type 1} → statement M
 is-sound-spec =
     tie.close
     (tie.spec
-    first-out-of-range-requires
+    (λ c κs. search needs)
     returns
-    cycle-sound-requires
+    (λ c κs. search needs)
     returns-2
-    cycle-sound-requires-2
+    (λ c κs. search needs)
     returns-3
-    sync-id-limit-requires
-    is-sound-requires
+    (λ c κs. search needs)
+    (λ c κs. search needs)
     returns-4
-    is-sound-requires-2
+    (λ c κs. search needs)
     returns-5
-    rate-limit-requires
-    rate-sound-requires
+    (λ c κs. search needs)
+    (λ c κs. search needs)
     returns-6)

@@ -2,8 +2,6 @@
 use borrow.Author.Needs.{needs}
 use Rattle.clock.proofs.sound.rate_sound.Statement.{statement}
 use Rattle.clock.proofs.sound.rate_sound.Tie as tie
-use Rattle.clock.proofs.sound.rate_sound.Reads as reads
-use Rattle.clock.proofs.sound.rate_sound.Lts as lts
 use Prim.Native.Nat.{_<_, _^_}
 use native.Mathlib.Omega.{arith}
 use lib.IntN.{pos, negℤ, +ℤ-idl}
@@ -25,9 +23,6 @@ limit-small c = omega arith
 
 cast-stored : tie.Need-cast-stored
 cast-stored c = wide-asked (rate-fits (c .before .before))
-
-cast-highest : tie.Need-cast-highest
-cast-highest c = search needs
 
 returns : tie.Need-returns
 returns c =
@@ -52,4 +47,4 @@ returns-2 c =
     (λ t. let above : leZ low x ≡ true = omega signed in rw (t, above)))
 
 pub rate-sound-spec : {M : Type 1} → statement M
-rate-sound-spec = tie.close (tie.spec cast-stored cast-highest returns sub-result returns-2)
+rate-sound-spec = tie.close (tie.spec cast-stored (λ c. search needs) returns sub-result returns-2)

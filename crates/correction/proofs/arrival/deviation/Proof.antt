@@ -2,9 +2,6 @@
 use borrow.Author.Needs.{needs}
 use Rattle.correction.proofs.arrival.deviation.Statement.{statement}
 use Rattle.correction.proofs.arrival.deviation.Tie as tie
-use Rattle.correction.proofs.arrival.deviation.Reads as reads
-use Rattle.correction.proofs.arrival.deviation.Lts as lts
-use Rattle.correction.proofs.microtick.SignedMicrotick.holding.Reads as holding-reads
 use Prim.Native.Nat.{_<_, _^_}
 use native.Mathlib.Omega.{arith}
 use mathlib.Core.Path.{_≡_}
@@ -61,29 +58,14 @@ module _ (c : tie.After-struct-known2) where
       let z = pos (c .before .before .args .delay) in
       omega (signed, sub-sums x y, sub-sums (x -ℤ y) z, sub-sums (x -ℤ y -ℤ z) (pos (c .before .before .args .action-point .0)))
 
-cast-sent : tie.Need-cast-sent
-cast-sent c = search needs
-
-cast-sent-2 : tie.Need-cast-sent-2
-cast-sent-2 c = search needs
-
 sub-sent : tie.Need-sub-sent
 sub-sent c = rw (wide-unsigned _ (observed-small c), wide-unsigned _ (correction-small c)) (corrected c)
-
-cast-sent-3 : tie.Need-cast-sent-3
-cast-sent-3 c = search needs
 
 sub-sent-2 : tie.Need-sub-sent-2
 sub-sent-2 c = rw (wide-unsigned _ (observed-small c), wide-unsigned _ (correction-small c), toZ-ofZ (corrected c), wide-unsigned _ (delay-small c)) (sent c)
 
-cast-wide : tie.Need-cast-wide
-cast-wide c = search needs
-
 sub-wide : tie.Need-sub-wide
 sub-wide c = rw (wide-unsigned _ (observed-small (c .before)), wide-unsigned _ (correction-small (c .before)), toZ-ofZ (corrected (c .before)), wide-unsigned _ (delay-small (c .before)), toZ-ofZ (sent (c .before)), wide-unsigned _ (action-point-small c)) (whole-fits c)
-
-holding-requires : tie.Need-holding-requires
-holding-requires c κs = search needs
 
 returns : tie.Need-returns
 returns c =
@@ -96,12 +78,12 @@ pub deviation-spec : {M : Type 1} → statement M
 deviation-spec =
     tie.close
     (tie.spec
-    cast-sent
-    cast-sent-2
+    (λ c. search needs)
+    (λ c. search needs)
     sub-sent
-    cast-sent-3
+    (λ c. search needs)
     sub-sent-2
-    cast-wide
+    (λ c. search needs)
     sub-wide
-    holding-requires
+    (λ c κs. search needs)
     returns)

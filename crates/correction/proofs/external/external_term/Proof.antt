@@ -2,8 +2,6 @@
 use borrow.Author.Needs.{needs}
 use Rattle.correction.proofs.external.external_term.Statement.{statement}
 use Rattle.correction.proofs.external.external_term.Tie as tie
-use Rattle.correction.proofs.external.external_term.Reads as reads
-use Rattle.correction.proofs.external.external_term.Lts as lts
 use Prim.Native.Nat.{_<_, _^_}
 use mathlib.Core.Path.{sym, ap, _∙_}
 use native.Mathlib.Omega.{arith}
@@ -16,20 +14,8 @@ use Rattle.correction.proofs.ControlLaws.{external-less, external-same,
 small : (c : tie.Start) → c .args .unit < 2 ^ 32
 small c = omega arith
 
-cast-wide : tie.Need-cast-wide
-cast-wide c = search needs
-
-enum-told : tie.Need-enum-told
-enum-told c = search needs
-
 sub-result : tie.Need-sub-result
 sub-result c = rw (wide-unsigned _ (small (c .before .before))) (wide-negated _ (small (c .before .before)))
-
-enum-told-2 : tie.Need-enum-told-2
-enum-told-2 c = search needs
-
-enum-told-3 : tie.Need-enum-told-3
-enum-told-3 c = search needs
 
 returns : tie.Need-returns
 returns c =
@@ -51,4 +37,4 @@ returns-3 c =
 pub external-term-spec : {M : Type 1} → statement M
 external-term-spec =
     tie.close
-    (tie.spec cast-wide enum-told sub-result enum-told-2 enum-told-3 returns returns-2 returns-3)
+    (tie.spec (λ c. search needs) (λ c. search needs) sub-result (λ c. search needs) (λ c. search needs) returns returns-2 returns-3)

@@ -2,10 +2,6 @@
 use borrow.Author.Needs.{needs}
 use Rattle.correction.proofs.external.with_external.Statement.{statement}
 use Rattle.correction.proofs.external.with_external.Tie as tie
-use Rattle.correction.proofs.external.with_external.Reads as reads
-use Rattle.correction.proofs.external.with_external.Lts as lts
-use Rattle.correction.proofs.external.external_term.Reads as external-term-reads
-use Rattle.correction.proofs.microtick.SignedMicrotick.holding.Reads as holding-reads
 use native.Mathlib.Omega.{arith}
 use mir.Syntax.{w32, w64}
 use mir.Val.{SFits}
@@ -38,14 +34,8 @@ sum-fits c =
 cast-wide : tie.Need-cast-wide
 cast-wide c = wide-asked (term-fits (c .before .before))
 
-external-term-requires : tie.Need-external-term-requires
-external-term-requires c κs = search needs
-
 add-wide : tie.Need-add-wide
 add-wide c = rw (wide-signed (term-fits (c .before .before .before)), toZ-ofZ (external-fits c), c .external-term .ensures) (sum-fits c)
-
-holding-requires : tie.Need-holding-requires
-holding-requires c κs = search needs
 
 returns : tie.Need-returns
 returns c =
@@ -55,4 +45,4 @@ returns c =
 
 pub with-external-spec : {M : Type 1} → statement M
 with-external-spec =
-    tie.close (tie.spec cast-wide external-term-requires add-wide holding-requires returns)
+    tie.close (tie.spec cast-wide (λ c κs. search needs) add-wide (λ c κs. search needs) returns)

@@ -2,8 +2,6 @@
 use borrow.Author.Needs.{needs}
 use Rattle.correction.proofs.term.damped.Statement.{statement}
 use Rattle.correction.proofs.term.damped.Tie as tie
-use Rattle.correction.proofs.term.damped.Reads as reads
-use Rattle.correction.proofs.term.damped.Lts as lts
 use Prim.Native.Nat.{_<_, _^_}
 use mathlib.Core.Path.{_≡_}
 use mathlib.Core.Bool.{true, false}
@@ -53,9 +51,6 @@ more-fits c =
 cast-rate : tie.Need-cast-rate
 cast-rate c = wide-asked (x-fits (c .before .before))
 
-cast-damping : tie.Need-cast-damping
-cast-damping c = search needs
-
 sub-t6 : tie.Need-sub-t6
 sub-t6 c = rw (wide-signed (x-fits (c .before .before .before)), wide-unsigned _ (d-small (c .before .before .before))) (wide-fits (less-fits c))
 
@@ -89,7 +84,7 @@ damped-spec =
     tie.close
     (tie.spec
     cast-rate
-    cast-damping
+    (λ c. search needs)
     sub-t6
     cast-t7
     returns

@@ -2,8 +2,6 @@
 use borrow.Author.Needs.{needs}
 use Rattle.correction.proofs.term.limited.Statement.{statement}
 use Rattle.correction.proofs.term.limited.Tie as tie
-use Rattle.correction.proofs.term.limited.Reads as reads
-use Rattle.correction.proofs.term.limited.Lts as lts
 use Prim.Native.Nat.{_<_, _^_}
 use mathlib.Core.Path.{_≡_}
 use mathlib.Core.Bool.{true, false}
@@ -52,9 +50,6 @@ lowest-fits c =
 cast-term : tie.Need-cast-term
 cast-term c = wide-asked (x-fits (c .before .before))
 
-cast-highest : tie.Need-cast-highest
-cast-highest c = search needs
-
 sub-lowest : tie.Need-sub-lowest
 sub-lowest c = rw (wide-unsigned _ (limit-small (c .before .before))) (wide-negated _ (limit-small (c .before .before)))
 
@@ -82,4 +77,4 @@ returns-3 c = rw (not-over (c .before), not-under c)
 pub limited-spec : {M : Type 1} → statement M
 limited-spec =
     tie.close
-    (tie.spec cast-term cast-highest sub-lowest cast-t7 returns cast-t9 returns-2 returns-3)
+    (tie.spec cast-term (λ c. search needs) sub-lowest cast-t7 returns cast-t9 returns-2 returns-3)

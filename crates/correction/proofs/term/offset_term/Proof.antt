@@ -2,11 +2,6 @@
 use borrow.Author.Needs.{needs}
 use Rattle.correction.proofs.term.offset_term.Statement.{statement}
 use Rattle.correction.proofs.term.offset_term.Tie as tie
-use Rattle.correction.proofs.term.offset_term.Reads as reads
-use Rattle.correction.proofs.term.offset_term.Lts as lts
-use Rattle.correction.proofs.term.Values.has_none.Reads as has-none-reads
-use Rattle.correction.proofs.term.Values.middle.Reads as middle-reads
-use Rattle.correction.proofs.term.limited.Reads as limited-reads
 use mathlib.Core.Path.{_≡_, refl, sym, ap, _∙_}
 use mathlib.Core.Bool.{true, false}
 use mathlib.Core.List.{List}
@@ -18,9 +13,6 @@ use Rattle.correction.proofs.TermLaws.{some-counted, where-none, where-
 has-some : (c : tie.Else1) → isNone (valuesIn (c .before .before .args .values)) ≡ false
 has-some c = sym (c .before .has-none .ensures) ∙ c .if1 .left
 
-has-none-requires : tie.Need-has-none-requires
-has-none-requires c κs = search needs
-
 returns : tie.Need-returns
 returns c =
     let a = c .before .before .args in
@@ -29,9 +21,6 @@ returns c =
 
 middle-requires : tie.Need-middle-requires
 middle-requires c κs = some-counted (c .before .before .args .values) (has-some c)
-
-limited-requires : tie.Need-limited-requires
-limited-requires c κs = search needs
 
 returns-2 : tie.Need-returns-2
 returns-2 c =
@@ -45,4 +34,4 @@ returns-2 c =
 
 pub offset-term-spec : {M : Type 1} → statement M
 offset-term-spec =
-    tie.close (tie.spec has-none-requires returns middle-requires limited-requires returns-2)
+    tie.close (tie.spec (λ c κs. search needs) returns middle-requires (λ c κs. search needs) returns-2)

@@ -2,13 +2,6 @@
 use borrow.Author.Needs.{needs}
 use Rattle.correction.proofs.term.rate_term.Statement.{statement}
 use Rattle.correction.proofs.term.rate_term.Tie as tie
-use Rattle.correction.proofs.term.rate_term.Reads as reads
-use Rattle.correction.proofs.term.rate_term.Lts as lts
-use Rattle.correction.proofs.microtick.SignedMicrotick.holding.Reads as holding-reads
-use Rattle.correction.proofs.term.Values.has_none.Reads as has-none-reads
-use Rattle.correction.proofs.term.Values.middle.Reads as middle-reads
-use Rattle.correction.proofs.term.damped.Reads as damped-reads
-use Rattle.correction.proofs.term.limited.Reads as limited-reads
 use mathlib.Core.Path.{_≡_, refl, sym, ap, _∙_}
 use mathlib.Core.Bool.{true, false}
 use lib.IntN.{ℤ, _+ℤ_}
@@ -31,9 +24,6 @@ middle-fits c = search needs
 
 stored-fits : (c : tie.Start) → SFits w32 (c .args .stored .0)
 stored-fits c = search needs
-
-has-none-requires : tie.Need-has-none-requires
-has-none-requires c κs = search needs
 
 returns : tie.Need-returns
 returns c =
@@ -58,15 +48,6 @@ add-wide c =
     let f = middle-fits (c .before .before .before .before) in
     let g = stored-fits (c .before .before .before .before .before .before .before) in
     rw (wide-signed f, wide-signed g) (wide-sum f g)
-
-holding-requires : tie.Need-holding-requires
-holding-requires c κs = search needs
-
-damped-requires : tie.Need-damped-requires
-damped-requires c κs = search needs
-
-limited-requires : tie.Need-limited-requires
-limited-requires c κs = search needs
 
 returns-2 : tie.Need-returns-2
 returns-2 c =
@@ -98,13 +79,13 @@ pub rate-term-spec : {M : Type 1} → statement M
 rate-term-spec =
     tie.close
     (tie.spec
-    has-none-requires
+    (λ c κs. search needs)
     returns
     middle-requires
     cast-wide
     cast-wide-2
     add-wide
-    holding-requires
-    damped-requires
-    limited-requires
+    (λ c κs. search needs)
+    (λ c κs. search needs)
+    (λ c κs. search needs)
     returns-2)

@@ -2,9 +2,6 @@
 use borrow.Author.Needs.{needs}
 use Rattle.correction.proofs.value.difference.Statement.{statement}
 use Rattle.correction.proofs.value.difference.Tie as tie
-use Rattle.correction.proofs.value.difference.Reads as reads
-use Rattle.correction.proofs.value.difference.Lts as lts
-use Rattle.correction.proofs.microtick.SignedMicrotick.holding.Reads as holding-reads
 use mathlib.Core.Path.{ap}
 use mir.Syntax.{w32}
 use mir.Val.{SFits}
@@ -18,24 +15,6 @@ odd-fits c = search needs
 even-fits : (c : tie.After-known-told2) → SFits w32 (c .before .even .given .0 .0 .0)
 even-fits c = search needs
 
-enum-known-odd : tie.Need-enum-known-odd
-enum-known-odd c = search needs
-
-enum-told : tie.Need-enum-told
-enum-told c = search needs
-
-returns : tie.Need-returns
-returns c = search needs
-
-enum-known-even : tie.Need-enum-known-even
-enum-known-even c = search needs
-
-enum-told-2 : tie.Need-enum-told-2
-enum-told-2 c = search needs
-
-returns-2 : tie.Need-returns-2
-returns-2 c = search needs
-
 cast-wide : tie.Need-cast-wide
 cast-wide c = wide-asked (odd-fits (c .before .before .before .before .before))
 
@@ -47,9 +26,6 @@ sub-wide c =
     let f = odd-fits (c .before .before .before .before .before .before .before) in
     let g = even-fits (c .before .before .before .before) in
     rw (wide-signed f, wide-signed g) (wide-difference f g)
-
-holding-requires : tie.Need-holding-requires
-holding-requires c κs = search needs
 
 returns-3 : tie.Need-returns-3
 returns-3 c =
@@ -64,14 +40,14 @@ pub difference-spec : {M : Type 1} → statement M
 difference-spec =
     tie.close
     (tie.spec
-    enum-known-odd
-    enum-told
-    returns
-    enum-known-even
-    enum-told-2
-    returns-2
+    (λ c. search needs)
+    (λ c. search needs)
+    (λ c. search needs)
+    (λ c. search needs)
+    (λ c. search needs)
+    (λ c. search needs)
     cast-wide
     cast-wide-2
     sub-wide
-    holding-requires
+    (λ c κs. search needs)
     returns-3)

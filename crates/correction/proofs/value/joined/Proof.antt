@@ -2,35 +2,14 @@
 use borrow.Author.Needs.{needs}
 use Rattle.correction.proofs.value.joined.Statement.{statement}
 use Rattle.correction.proofs.value.joined.Tie as tie
-use Rattle.correction.proofs.value.joined.Reads as reads
-use Rattle.correction.proofs.value.joined.Lts as lts
-use Rattle.midpoint.proofs.half_sum.Reads as half-sum-reads
 use mathlib.Core.Path.{ap}
 use mir.Syntax.{w32}
 use mir.Val.{SFits}
 use mir.Facts.{toZ-ofZ}
 use Rattle.correction.specs.Values.{is}
 
-enum-known-on-a : tie.Need-enum-known-on-a
-enum-known-on-a c = search needs
-
-enum-told : tie.Need-enum-told
-enum-told c = search needs
-
-returns : tie.Need-returns
-returns c = search needs
-
-enum-known-on-b : tie.Need-enum-known-on-b
-enum-known-on-b c = search needs
-
-enum-told-2 : tie.Need-enum-told-2
-enum-told-2 c = search needs
-
 returns-2 : tie.Need-returns-2
 returns-2 c = rw (c .before .before .before .on-a .given .1, c .enum-told2 .given .1)
-
-half-sum-requires : tie.Need-half-sum-requires
-half-sum-requires c κs = search needs
 
 returns-3 : tie.Need-returns-3
 returns-3 c =
@@ -45,11 +24,11 @@ pub joined-spec : {M : Type 1} → statement M
 joined-spec =
     tie.close
     (tie.spec
-    enum-known-on-a
-    enum-told
-    returns
-    enum-known-on-b
-    enum-told-2
+    (λ c. search needs)
+    (λ c. search needs)
+    (λ c. search needs)
+    (λ c. search needs)
+    (λ c. search needs)
     returns-2
-    half-sum-requires
+    (λ c κs. search needs)
     returns-3)

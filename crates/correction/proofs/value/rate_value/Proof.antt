@@ -2,21 +2,8 @@
 use borrow.Author.Needs.{needs}
 use Rattle.correction.proofs.value.rate_value.Statement.{statement}
 use Rattle.correction.proofs.value.rate_value.Tie as tie
-use Rattle.correction.proofs.value.rate_value.Reads as reads
-use Rattle.correction.proofs.value.rate_value.Lts as lts
-use Rattle.correction.proofs.value.difference.Reads as difference-reads
-use Rattle.correction.proofs.value.joined.Reads as joined-reads
 use mathlib.Core.Path.{_≡_}
 use Rattle.correction.specs.Values.{joined}
-
-difference-requires : tie.Need-difference-requires
-difference-requires c κs = search needs
-
-difference-requires-2 : tie.Need-difference-requires-2
-difference-requires-2 c κs = search needs
-
-joined-requires : tie.Need-joined-requires
-joined-requires c κs = search needs
 
 returns : tie.Need-returns
 returns c =
@@ -25,4 +12,4 @@ returns c =
 
 pub rate-value-spec : {M : Type 1} → statement M
 rate-value-spec =
-    tie.close (tie.spec difference-requires difference-requires-2 joined-requires returns)
+    tie.close (tie.spec (λ c κs. search needs) (λ c κs. search needs) (λ c κs. search needs) returns)

@@ -2,29 +2,12 @@
 use borrow.Author.Needs.{needs}
 use Rattle.correction.proofs.value.smaller.Statement.{statement}
 use Rattle.correction.proofs.value.smaller.Tie as tie
-use Rattle.correction.proofs.value.smaller.Reads as reads
-use Rattle.correction.proofs.value.smaller.Lts as lts
 use mathlib.Core.Path.{_≡_}
 use mathlib.Core.Bool.{true, false}
 use lib.Signed.{ltZ}
 use mir.Syntax.{w32}
 use mir.Val.{SFits}
 use mir.Facts.{toZ-ofZ}
-
-enum-known-one : tie.Need-enum-known-one
-enum-known-one c = search needs
-
-enum-told : tie.Need-enum-told
-enum-told c = search needs
-
-returns : tie.Need-returns
-returns c = search needs
-
-enum-known-other : tie.Need-enum-known-other
-enum-known-other c = search needs
-
-enum-told-2 : tie.Need-enum-told-2
-enum-told-2 c = search needs
 
 returns-2 : tie.Need-returns-2
 returns-2 c = rw (c .before .before .before .one .given .1, c .enum-told2 .given .1)
@@ -51,11 +34,11 @@ pub smaller-spec : {M : Type 1} → statement M
 smaller-spec =
     tie.close
     (tie.spec
-    enum-known-one
-    enum-told
-    returns
-    enum-known-other
-    enum-told-2
+    (λ c. search needs)
+    (λ c. search needs)
+    (λ c. search needs)
+    (λ c. search needs)
+    (λ c. search needs)
     returns-2
     returns-3
     returns-4)

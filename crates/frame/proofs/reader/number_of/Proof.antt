@@ -10,8 +10,6 @@ use Rattle.division.specs.Bits.{number, bytesBits}
 use Rattle.frame.proofs.NumberLaws.{turn-number, room-number, fits-number, end-number}
 use Rattle.frame.proofs.reader.number_of.Statement.{statement}
 use Rattle.frame.proofs.reader.number_of.Tie as tie
-use Rattle.frame.proofs.reader.number_of.Reads as reads
-use Rattle.frame.proofs.reader.number_of.Lts as lts
 
 abbrev Inv-loop : tie.InvT-loop
 Inv-loop bytes r₀ i₀ r i =
@@ -29,9 +27,6 @@ mul-r c =
     let l = c .before .loop in
     omega (arith, fits-number (l .i) (l .r) 0 (omega arith) (l .inv .1) (omega arith))
 
-shared-slice-read-r : tie.Need-shared-slice-read-r Inv-loop μ-loop
-shared-slice-read-r c = search needs
-
 cast-r : tie.Need-cast-r Inv-loop μ-loop
 cast-r c = omega (arith, c .shared-slice-known .given (c .before .before .loop .i))
 
@@ -40,12 +35,6 @@ add-r c =
     let l = c .before .before .loop in
     let byte = c .shared-slice-known .given (l .i) .fits in
     omega (arith, fits-number (l .i) (l .r) (getD (now (c .before .before .before .args .bytes)) (l .i) 0) (omega arith) (l .inv .1) byte)
-
-add-i : tie.Need-add-i Inv-loop μ-loop
-add-i c = search needs
-
-loop-less : tie.Need-loop-less Inv-loop μ-loop
-loop-less c = search needs
 
 loop-again : tie.Need-loop-again Inv-loop μ-loop
 loop-again c =
@@ -71,10 +60,10 @@ number-of-spec =
     μ-loop
     loop-holds
     mul-r
-    shared-slice-read-r
+    (λ c. search needs)
     cast-r
     add-r
-    add-i
-    loop-less
+    (λ c. search needs)
+    (λ c. search needs)
     loop-again
     returns)

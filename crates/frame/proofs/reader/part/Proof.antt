@@ -14,21 +14,6 @@ use Rattle.frame.specs.Read.{told, payloadRead, behind, partOffset}
 use borrow.Author.Needs.{needs}
 use Rattle.frame.proofs.reader.part.Statement.{statement}
 use Rattle.frame.proofs.reader.part.Tie as tie
-use Rattle.frame.proofs.reader.part.Reads as reads
-use Rattle.frame.proofs.reader.part.Lts as lts
-use Rattle.frame.proofs.reader.Reading.number.Reads as number-reads
-
-number-requires : tie.Need-number-requires
-number-requires c κs = search needs
-
-sub-result : tie.Need-sub-result
-sub-result c = search needs
-
-part-result-start : tie.Need-part-result-start
-part-result-start c = search needs
-
-part-result-end : tie.Need-part-result-end
-part-result-end c = search needs
 
 returns : tie.Need-returns
 returns c =
@@ -39,15 +24,6 @@ returns c =
       sym (if-refused n (payloadRead bytes) [] refused),
       ap (λ (k : ℕ). behind k (ptr (a .bytes))) (sym (if-refused n (cond (tooShort bytes) 0 5) 0 refused)),
     )
-
-sub-result-2 : tie.Need-sub-result-2
-sub-result-2 c = search needs
-
-part-result-start-2 : tie.Need-part-result-start-2
-part-result-start-2 c = search needs
-
-part-result-end-2 : tie.Need-part-result-end-2
-part-result-end-2 c = search needs
 
 returns-2 : tie.Need-returns-2
 returns-2 c =
@@ -60,18 +36,6 @@ returns-2 c =
       payload-none bytes (c .before .if2 .taken) ∙ sym (if-accepted n (payloadRead bytes) [] accepted),
       ap (λ (k : ℕ). behind k (ptr (a .bytes))) (sym offset),
     )
-
-sub-end : tie.Need-sub-end
-sub-end c = search needs
-
-sub-result-3 : tie.Need-sub-result-3
-sub-result-3 c = search needs
-
-part-result-start-3 : tie.Need-part-result-start-3
-part-result-start-3 c = search needs
-
-part-result-end-3 : tie.Need-part-result-end-3
-part-result-end-3 c = search needs
 
 returns-3 : tie.Need-returns-3
 returns-3 c =
@@ -90,17 +54,17 @@ pub part-spec : {M : Type 1} → statement M
 part-spec =
     tie.close
     (tie.spec
-    number-requires
-    sub-result
-    part-result-start
-    part-result-end
+    (λ c κs. search needs)
+    (λ c. search needs)
+    (λ c. search needs)
+    (λ c. search needs)
     returns
-    sub-result-2
-    part-result-start-2
-    part-result-end-2
+    (λ c. search needs)
+    (λ c. search needs)
+    (λ c. search needs)
     returns-2
-    sub-end
-    sub-result-3
-    part-result-start-3
-    part-result-end-3
+    (λ c. search needs)
+    (λ c. search needs)
+    (λ c. search needs)
+    (λ c. search needs)
     returns-3)

@@ -8,16 +8,6 @@ use Rattle.frame.specs.Read.{Told, told, refusals, rule, partRule, behin
 use borrow.Author.Needs.{needs}
 use Rattle.frame.proofs.reader.payload.Statement.{statement}
 use Rattle.frame.proofs.reader.payload.Tie as tie
-use Rattle.frame.proofs.reader.payload.Reads as reads
-use Rattle.frame.proofs.reader.payload.Lts as lts
-use Rattle.frame.proofs.reader.part.Reads as part-reads
-use Rattle.frame.proofs.reader.read.Reads as read-reads
-
-read-requires : tie.Need-read-requires
-read-requires c κs = search needs
-
-part-requires : tie.Need-part-requires
-part-requires c κs = search needs
 
 returns : tie.Need-returns
 returns c =
@@ -30,4 +20,4 @@ returns c =
     )
 
 pub payload-spec : {M : Type 1} → statement M
-payload-spec = tie.close (tie.spec read-requires part-requires returns)
+payload-spec = tie.close (tie.spec (λ c κs. search needs) (λ c κs. search needs) returns)

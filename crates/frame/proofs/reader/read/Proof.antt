@@ -12,28 +12,12 @@ use Rattle.frame.specs.Read.{told, refusalsOn, rule}
 use borrow.Author.Needs.{needs}
 use Rattle.frame.proofs.reader.read.Statement.{statement}
 use Rattle.frame.proofs.reader.read.Tie as tie
-use Rattle.frame.proofs.reader.read.Reads as reads
-use Rattle.frame.proofs.reader.read.Lts as lts
-use Rattle.checksum.proofs.Channel.named.Reads as named-reads
-use Rattle.frame.proofs.reader.read_on.Reads as read-on-reads
-
-named-requires : tie.Need-named-requires
-named-requires c κs = search needs
-
-enum-known-named : tie.Need-enum-known-named
-enum-known-named c = search needs
-
-enum-told : tie.Need-enum-told
-enum-told c = search needs
 
 returns : tie.Need-returns
 returns c =
     let a = c .before .before .before .before .args in
     let e : notAChannel (a .channel) ≡ true = named-not (a .channel) (sym (c .before .before .named .ensures) ∙ c .enum-told .given .1) in
     ap (λ (n : ℕ). rule n (now (a .bytes))) (sym (first-here 1 _ e))
-
-read-on-requires : tie.Need-read-on-requires
-read-on-requires c κs = search needs
 
 returns-2 : tie.Need-returns-2
 returns-2 c =
@@ -49,4 +33,4 @@ returns-2 c =
 pub read-spec : {M : Type 1} → statement M
 read-spec =
     tie.close
-    (tie.spec named-requires enum-known-named enum-told returns read-on-requires returns-2)
+    (tie.spec (λ c κs. search needs) (λ c. search needs) (λ c. search needs) returns (λ c κs. search needs) returns-2)

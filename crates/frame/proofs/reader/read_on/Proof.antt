@@ -24,13 +24,6 @@ use Rattle.frame.proofs.ReadLaws.{header-of-number}
 use borrow.Author.Needs.{needs}
 use Rattle.frame.proofs.reader.read_on.Statement.{statement}
 use Rattle.frame.proofs.reader.read_on.Tie as tie
-use Rattle.frame.proofs.reader.read_on.Reads as reads
-use Rattle.frame.proofs.reader.read_on.Lts as lts
-use Rattle.checksum.proofs.frame_checksum_on.Reads as frame-checksum-on-reads
-use Rattle.header.proofs.checksum_of.Reads as checksum-of-reads
-use Rattle.header.proofs.startup_without_sync.Reads as startup-without-sync-reads
-use Rattle.header.proofs.unpacked.Reads as unpacked-reads
-use Rattle.frame.proofs.reader.number_of.Reads as number-of-reads
 
 -- ---- what was read, seen from where it was read
 
@@ -150,33 +143,6 @@ to6 : (c : tie.Else5) (l : List Line)
     ≡ first l
 to6 c l = to4 (read5 c) _ ∙ first-skip 4 _ (checksum-good (c .before)) ∙ first-skip 5 l (words-good c)
 
-sub-number-of : tie.Need-sub-number-of
-sub-number-of c = search needs
-
-part-number-of-start : tie.Need-part-number-of-start
-part-number-of-start c = search needs
-
-part-number-of-end : tie.Need-part-number-of-end
-part-number-of-end c = search needs
-
-number-of-requires : tie.Need-number-of-requires
-number-of-requires c κs = search needs
-
-unpacked-requires : tie.Need-unpacked-requires
-unpacked-requires c κs = search needs
-
-cast-size : tie.Need-cast-size
-cast-size c = search needs
-
-mul-size : tie.Need-mul-size
-mul-size c = search needs
-
-add-size : tie.Need-add-size
-add-size c = search needs
-
-checksum-of-requires : tie.Need-checksum-of-requires
-checksum-of-requires c κs = search needs
-
 returns-4 : tie.Need-returns-4
 returns-4 c =
     let u = c .before .before .before .before in
@@ -197,9 +163,6 @@ returns-6 c =
     ap (λ (n : ℕ). rule n (in4 (read5 e)))
     (sym (to6 e _ ∙ first-here 6 _ zero))
 
-startup-without-sync-requires : tie.Need-startup-without-sync-requires
-startup-without-sync-requires c κs = search needs
-
 returns-7 : tie.Need-returns-7
 returns-7 c =
     let e = before7 (c .before) in
@@ -208,36 +171,6 @@ returns-7 c =
     (sym
     (to6 (e .before) _ ∙ first-skip 6 _ (id-good e)
     ∙ first-here 7 _ set))
-
-sub-end : tie.Need-sub-end
-sub-end c = search needs
-
-sub-number-of-2 : tie.Need-sub-number-of-2
-sub-number-of-2 c = search needs
-
-part-number-of-start-2 : tie.Need-part-number-of-start-2
-part-number-of-start-2 c = search needs
-
-part-number-of-end-2 : tie.Need-part-number-of-end-2
-part-number-of-end-2 c = search needs
-
-number-of-requires-2 : tie.Need-number-of-requires-2
-number-of-requires-2 c κs = search needs
-
-sub-frame-checksum-on : tie.Need-sub-frame-checksum-on
-sub-frame-checksum-on c = search needs
-
-part-frame-checksum-on-start : tie.Need-part-frame-checksum-on-start
-part-frame-checksum-on-start c = search needs
-
-part-frame-checksum-on-end : tie.Need-part-frame-checksum-on-end
-part-frame-checksum-on-end c = search needs
-
-frame-checksum-on-requires : tie.Need-frame-checksum-on-requires
-frame-checksum-on-requires c κs = search needs
-
-cast-if8 : tie.Need-cast-if8
-cast-if8 c = search needs
 
 returns-8 : tie.Need-returns-8
 returns-8 c =
@@ -264,29 +197,29 @@ read-on-spec =
     returns
     returns-2
     returns-3
-    sub-number-of
-    part-number-of-start
-    part-number-of-end
-    number-of-requires
-    unpacked-requires
-    cast-size
-    mul-size
-    add-size
-    checksum-of-requires
+    (λ c. search needs)
+    (λ c. search needs)
+    (λ c. search needs)
+    (λ c κs. search needs)
+    (λ c κs. search needs)
+    (λ c. search needs)
+    (λ c. search needs)
+    (λ c. search needs)
+    (λ c κs. search needs)
     returns-4
     returns-5
     returns-6
-    startup-without-sync-requires
+    (λ c κs. search needs)
     returns-7
-    sub-end
-    sub-number-of-2
-    part-number-of-start-2
-    part-number-of-end-2
-    number-of-requires-2
-    sub-frame-checksum-on
-    part-frame-checksum-on-start
-    part-frame-checksum-on-end
-    frame-checksum-on-requires
-    cast-if8
+    (λ c. search needs)
+    (λ c. search needs)
+    (λ c. search needs)
+    (λ c. search needs)
+    (λ c κs. search needs)
+    (λ c. search needs)
+    (λ c. search needs)
+    (λ c. search needs)
+    (λ c κs. search needs)
+    (λ c. search needs)
     returns-8
     returns-9)

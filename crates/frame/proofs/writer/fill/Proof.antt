@@ -12,8 +12,6 @@ use Rattle.frame.specs.Write.{over}
 use Rattle.frame.proofs.OverLaws.{over-turn, over-end}
 use Rattle.frame.proofs.writer.fill.Statement.{statement}
 use Rattle.frame.proofs.writer.fill.Tie as tie
-use Rattle.frame.proofs.writer.fill.Reads as reads
-use Rattle.frame.proofs.writer.fill.Lts as lts
 
 abbrev Inv-loop : tie.InvT-loop
 Inv-loop output₀ payload i₀ output i =
@@ -25,18 +23,6 @@ abbrev μ-loop : tie.MeasureT-loop
 
 loop-holds : tie.Need-loop-holds Inv-loop μ-loop
 loop-holds c = (omega arith, refl, refl)
-
-shared-slice-read-output : tie.Need-shared-slice-read-output Inv-loop μ-loop
-shared-slice-read-output c = search needs
-
-slice-write-output : tie.Need-slice-write-output Inv-loop μ-loop
-slice-write-output c = search needs
-
-add-i : tie.Need-add-i Inv-loop μ-loop
-add-i c = search needs
-
-loop-less : tie.Need-loop-less Inv-loop μ-loop
-loop-less c = search needs
 
 loop-again : tie.Need-loop-again Inv-loop μ-loop
 loop-again c =
@@ -69,10 +55,10 @@ fill-spec =
     Inv-loop
     μ-loop
     loop-holds
-    shared-slice-read-output
-    slice-write-output
-    add-i
-    loop-less
+    (λ c. search needs)
+    (λ c. search needs)
+    (λ c. search needs)
+    (λ c. search needs)
     loop-again
     same-length
     returns)

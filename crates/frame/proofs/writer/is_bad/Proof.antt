@@ -9,8 +9,6 @@ use lib.ListN.{length}
 use Rattle.frame.specs.Refusals.{badPayload}
 use Rattle.frame.proofs.writer.is_bad.Statement.{statement}
 use Rattle.frame.proofs.writer.is_bad.Tie as tie
-use Rattle.frame.proofs.writer.is_bad.Reads as reads
-use Rattle.frame.proofs.writer.is_bad.Lts as lts
 
 returns : tie.Need-returns
 returns c = rw (eq-eqb (length (now (c .before .args .payload)) % 2) 1 (c .if1 .taken))

@@ -17,68 +17,6 @@ use Rattle.frame.proofs.WriteLaws.{length-start}
 use borrow.Author.Needs.{needs}
 use Rattle.frame.proofs.writer.lay.Statement.{statement}
 use Rattle.frame.proofs.writer.lay.Tie as tie
-use Rattle.frame.proofs.writer.lay.Reads as reads
-use Rattle.frame.proofs.writer.lay.Lts as lts
-use Rattle.checksum.proofs.frame_checksum_on.Reads as frame-checksum-on-reads
-use Rattle.header.proofs.packed.Reads as packed-reads
-use Rattle.frame.proofs.writer.put_number.Reads as put-number-reads
-use Rattle.frame.proofs.writer.fill.Reads as fill-reads
-use Rattle.frame.proofs.writer.header_of.Reads as header-of-reads
-use Rattle.frame.proofs.writer.put_trailer.Reads as put-trailer-reads
-
-cast-words : tie.Need-cast-words
-cast-words c = search needs
-
-header-of-requires : tie.Need-header-of-requires
-header-of-requires c κs = search needs
-
-packed-requires : tie.Need-packed-requires
-packed-requires c κs = search needs
-
-put-number-requires : tie.Need-put-number-requires
-put-number-requires c κs = search needs
-
-sub-fill : tie.Need-sub-fill
-sub-fill c = search needs
-
-part-fill-start : tie.Need-part-fill-start
-part-fill-start c = search needs
-
-part-fill-end : tie.Need-part-fill-end
-part-fill-end c = search needs
-
-fill-requires : tie.Need-fill-requires
-fill-requires c κs = search needs
-
-add-end : tie.Need-add-end
-add-end c = search needs
-
-sub-frame-checksum-on : tie.Need-sub-frame-checksum-on
-sub-frame-checksum-on c = search needs
-
-part-frame-checksum-on-start : tie.Need-part-frame-checksum-on-start
-part-frame-checksum-on-start c = search needs
-
-part-frame-checksum-on-end : tie.Need-part-frame-checksum-on-end
-part-frame-checksum-on-end c = search needs
-
-frame-checksum-on-requires : tie.Need-frame-checksum-on-requires
-frame-checksum-on-requires c κs = search needs
-
-sub-put-trailer : tie.Need-sub-put-trailer
-sub-put-trailer c = search needs
-
-part-put-trailer-start : tie.Need-part-put-trailer-start
-part-put-trailer-start c = search needs
-
-part-put-trailer-end : tie.Need-part-put-trailer-end
-part-put-trailer-end c = search needs
-
-put-trailer-requires : tie.Need-put-trailer-requires
-put-trailer-requires c κs = search needs
-
-same-length : tie.Need-same-length
-same-length c = search needs
 
 -- ---- what lies in the output after each step
 
@@ -133,22 +71,22 @@ pub lay-spec : {M : Type 1} → statement M
 lay-spec =
     tie.close
     (tie.spec
-    cast-words
-    header-of-requires
-    packed-requires
-    put-number-requires
-    sub-fill
-    part-fill-start
-    part-fill-end
-    fill-requires
-    add-end
-    sub-frame-checksum-on
-    part-frame-checksum-on-start
-    part-frame-checksum-on-end
-    frame-checksum-on-requires
-    sub-put-trailer
-    part-put-trailer-start
-    part-put-trailer-end
-    put-trailer-requires
-    same-length
+    (λ c. search needs)
+    (λ c κs. search needs)
+    (λ c κs. search needs)
+    (λ c κs. search needs)
+    (λ c. search needs)
+    (λ c. search needs)
+    (λ c. search needs)
+    (λ c κs. search needs)
+    (λ c. search needs)
+    (λ c. search needs)
+    (λ c. search needs)
+    (λ c. search needs)
+    (λ c κs. search needs)
+    (λ c. search needs)
+    (λ c. search needs)
+    (λ c. search needs)
+    (λ c κs. search needs)
+    (λ c. search needs)
     returns)

@@ -13,8 +13,6 @@ use Rattle.frame.proofs.NumberLaws.{bytes-of-suc}
 use Rattle.frame.proofs.OverLaws.{over-turn, over-end}
 use Rattle.frame.proofs.writer.put_number.Statement.{statement}
 use Rattle.frame.proofs.writer.put_number.Tie as tie
-use Rattle.frame.proofs.writer.put_number.Reads as reads
-use Rattle.frame.proofs.writer.put_number.Lts as lts
 
 abbrev Inv-loop : tie.InvT-loop
 Inv-loop output₀ number count i₀ output i =
@@ -27,30 +25,6 @@ abbrev μ-loop : tie.MeasureT-loop
 
 loop-holds : tie.Need-loop-holds Inv-loop μ-loop
 loop-holds c = (omega arith, refl, rw sub-zero)
-
-sub-place : tie.Need-sub-place Inv-loop μ-loop
-sub-place c = search needs
-
-sub-place-2 : tie.Need-sub-place-2 Inv-loop μ-loop
-sub-place-2 c = search needs
-
-mul-place : tie.Need-mul-place Inv-loop μ-loop
-mul-place c = search needs
-
-shr-output : tie.Need-shr-output Inv-loop μ-loop
-shr-output c = search needs
-
-cast-output : tie.Need-cast-output Inv-loop μ-loop
-cast-output c = search needs
-
-slice-write-output : tie.Need-slice-write-output Inv-loop μ-loop
-slice-write-output c = search needs
-
-add-i : tie.Need-add-i Inv-loop μ-loop
-add-i c = search needs
-
-loop-less : tie.Need-loop-less Inv-loop μ-loop
-loop-less c = search needs
 
 loop-again : tie.Need-loop-again Inv-loop μ-loop
 loop-again c =
@@ -89,14 +63,14 @@ put-number-spec =
     Inv-loop
     μ-loop
     loop-holds
-    sub-place
-    sub-place-2
-    mul-place
-    shr-output
-    cast-output
-    slice-write-output
-    add-i
-    loop-less
+    (λ c. search needs)
+    (λ c. search needs)
+    (λ c. search needs)
+    (λ c. search needs)
+    (λ c. search needs)
+    (λ c. search needs)
+    (λ c. search needs)
+    (λ c. search needs)
     loop-again
     same-length
     returns)

@@ -6,12 +6,6 @@ use Rattle.division.specs.Bits.{bits, bytesOf}
 use Rattle.frame.specs.Write.{over}
 use Rattle.frame.proofs.writer.put_trailer.Statement.{statement}
 use Rattle.frame.proofs.writer.put_trailer.Tie as tie
-use Rattle.frame.proofs.writer.put_trailer.Reads as reads
-use Rattle.frame.proofs.writer.put_trailer.Lts as lts
-use Rattle.frame.proofs.writer.put_number.Reads as put-number-reads
-
-put-number-requires : tie.Need-put-number-requires
-put-number-requires c κs = search needs
 
 -- the bytes that were laid are those of the checksum
 laid : (c : tie.After-put-number)
@@ -19,12 +13,9 @@ laid : (c : tie.After-put-number)
     ≡ over (bytesOf 3 (bits 24 (c .before .before .before .args .checksum))) (now (c .before .before .before .args .output))
 laid c = c .«put-number» .ensures
 
-same-length : tie.Need-same-length
-same-length c = search needs
-
 -- and nothing was done behind them
 returns : tie.Need-returns
 returns c = laid (search needs)
 
 pub put-trailer-spec : {M : Type 1} → statement M
-put-trailer-spec = tie.close (tie.spec put-number-requires same-length returns)
+put-trailer-spec = tie.close (tie.spec (λ c κs. search needs) (λ c. search needs) returns)

@@ -22,14 +22,6 @@ use Rattle.frame.proofs.WriteLaws.{write-refused, write-accepted, paylo
 use borrow.Author.Needs.{needs}
 use Rattle.frame.proofs.writer.write.Statement.{statement}
 use Rattle.frame.proofs.writer.write.Tie as tie
-use Rattle.frame.proofs.writer.write.Reads as reads
-use Rattle.frame.proofs.writer.write.Lts as lts
-use Rattle.checksum.proofs.Channel.named.Reads as named-reads
-use Rattle.header.proofs.Cycle.is_too_high.Reads as is-too-high-reads
-use Rattle.header.proofs.Slot.is_not_an_id.Reads as is-not-an-id-reads
-use Rattle.header.proofs.startup_without_sync.Reads as startup-without-sync-reads
-use Rattle.frame.proofs.writer.is_bad.Reads as is-bad-reads
-use Rattle.frame.proofs.writer.lay.Reads as lay-reads
 
 -- ---- what was given, seen from where it is used
 
@@ -107,23 +99,11 @@ to13 c l = to7 (c .before .before .before) _ ∙ first-skip 7 _ (startup-good (c
 
 -- ---- the answers
 
-named-requires : tie.Need-named-requires
-named-requires c κs = search needs
-
-enum-known-named : tie.Need-enum-known-named
-enum-known-named c = search needs
-
-enum-told : tie.Need-enum-told
-enum-told c = search needs
-
 returns : tie.Need-returns
 returns c =
     let a = c .before .before .before .before .before .args in
     let e : notAChannel (a .channel) ≡ true = named-not (a .channel) (sym (c .before .before .named .ensures) ∙ c .enum-told .given .1) in
     write-refused (a .channel) (a .fields) (now (a .payload)) (now (a .output)) NotAChannel 0 refl (first-here 1 _ e)
-
-is-not-an-id-requires : tie.Need-is-not-an-id-requires
-is-not-an-id-requires c κs = search needs
 
 returns-2 : tie.Need-returns-2
 returns-2 c =
@@ -131,17 +111,11 @@ returns-2 c =
     let e = sym (c .before .«is-not-an-id» .ensures) ∙ c .if1 .taken in
     refuse k NotAnId 8 refl (first-skip 1 _ (is-channel k .0) ∙ first-here 9 _ e)
 
-is-bad-requires : tie.Need-is-bad-requires
-is-bad-requires c κs = search needs
-
 returns-3 : tie.Need-returns-3
 returns-3 c =
     let p = c .before .before in
     let e = sym (c .before .«is-bad» .ensures) ∙ c .if2 .taken in
     refuse (named1 p) BadPayload 9 refl (to10 p _ ∙ first-here 10 _ e)
-
-is-too-high-requires : tie.Need-is-too-high-requires
-is-too-high-requires c κs = search needs
 
 returns-4 : tie.Need-returns-4
 returns-4 c =
@@ -149,17 +123,11 @@ returns-4 c =
     let e = sym (c .before .«is-too-high» .ensures) ∙ c .if3 .taken in
     refuse (named1 (p .before .before)) CycleTooHigh 10 refl (to10 (p .before .before) _ ∙ first-skip 10 _ (payload-good p) ∙ first-here 11 _ e)
 
-startup-without-sync-requires : tie.Need-startup-without-sync-requires
-startup-without-sync-requires c κs = search needs
-
 returns-5 : tie.Need-returns-5
 returns-5 c =
     let p = c .before .before in
     let e = sym (c .before .«startup-without-sync» .ensures) ∙ c .if4 .taken in
     refuse (named3 p) StartupWithoutSync 6 refl (to7 p _ ∙ first-here 7 _ e)
-
-add-size : tie.Need-add-size
-add-size c = search needs
 
 returns-6 : tie.Need-returns-6
 returns-6 c =
@@ -179,9 +147,6 @@ lay-requires c κs =
     let a = entry (named4 (p .before)) .args in
     (payload-at-most (now (a .payload)) (payload-good (p .before .before .before .before .before)), omega arith)
 
-same-length : tie.Need-same-length
-same-length c = search needs
-
 returns-8 : tie.Need-returns-8
 returns-8 c =
     let laid = c .before .before in
@@ -199,21 +164,21 @@ pub write-spec : {M : Type 1} → statement M
 write-spec =
     tie.close
     (tie.spec
-    named-requires
-    enum-known-named
-    enum-told
+    (λ c κs. search needs)
+    (λ c. search needs)
+    (λ c. search needs)
     returns
-    is-not-an-id-requires
+    (λ c κs. search needs)
     returns-2
-    is-bad-requires
+    (λ c κs. search needs)
     returns-3
-    is-too-high-requires
+    (λ c κs. search needs)
     returns-4
-    startup-without-sync-requires
+    (λ c κs. search needs)
     returns-5
-    add-size
+    (λ c. search needs)
     returns-6
     returns-7
     lay-requires
-    same-length
+    (λ c. search needs)
     returns-8)

@@ -4,8 +4,6 @@ use lib.Dec.{ltb}
 use Rattle.header.specs.Refusals.{cycleTooHigh}
 use Rattle.header.proofs.Cycle.is_too_high.Statement.{statement}
 use Rattle.header.proofs.Cycle.is_too_high.Tie as tie
-use Rattle.header.proofs.Cycle.is_too_high.Reads as reads
-use Rattle.header.proofs.Cycle.is_too_high.Lts as lts
 
 returns : tie.Need-returns
 returns c =

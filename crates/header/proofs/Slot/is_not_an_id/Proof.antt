@@ -6,8 +6,6 @@ use lib.Dec.{ltb}
 use Rattle.header.specs.Refusals.{notAnId}
 use Rattle.header.proofs.Slot.is_not_an_id.Statement.{statement}
 use Rattle.header.proofs.Slot.is_not_an_id.Tie as tie
-use Rattle.header.proofs.Slot.is_not_an_id.Reads as reads
-use Rattle.header.proofs.Slot.is_not_an_id.Lts as lts
 
 returns : tie.Need-returns
 returns c = rw (lt-ltb (c .before .before .args .self .0) 1 (c .if1 .taken))

@@ -43,12 +43,6 @@ turned-fits c = negative-fits (c .before .args .number) (is-negative c) (fits (c
 cast-wide : tie.Need-cast-wide
 cast-wide c = rw (toZ-ofZ (fits c)) (wide-fits (fits c))
 
-slice-aggregate-put : tie.Need-slice-aggregate-put
-slice-aggregate-put c = search needs
-
-put-requires : tie.Need-put-requires
-put-requires c κs = search needs
-
 sub-put-digits : tie.Need-sub-put-digits
 sub-put-digits c = let n = c .before .before .before .before in rw (wide-signed (fits (n .before))) (turned-fits n)
 
@@ -58,35 +52,23 @@ cast-put-digits c =
     rw (wide-signed (fits (n .before)), toZ-ofZ (turned-fits n))
     (turned-above (n .before .args .number) (is-negative n), fits-natAbs tt (turned-fits n))
 
-put-digits-requires : tie.Need-put-digits-requires
-put-digits-requires c κs = search needs
-
-returns : tie.Need-returns
-returns c = search needs
-
 cast-decimal : tie.Need-cast-decimal
 cast-decimal c =
     let s = c .before .before in
     let t : ltZ (s .args .number) (pos 0) ≡ false = rw (wide-signed (fits s)) at (c .before .if1 .left) in
     rw (wide-signed (fits s)) (stays-above (s .args .number) t, fits-natAbs tt (wide-fits (fits s)))
 
-decimal-requires : tie.Need-decimal-requires
-decimal-requires c κs = search needs
-
-returns-2 : tie.Need-returns-2
-returns-2 c = search needs
-
 pub signed-spec : {M : Type 1} → statement M
 signed-spec =
     tie.close
     (tie.spec
     cast-wide
-    slice-aggregate-put
-    put-requires
+    (λ c. search needs)
+    (λ c κs. search needs)
     sub-put-digits
     cast-put-digits
-    put-digits-requires
-    returns
+    (λ c κs. search needs)
+    (λ c. search needs)
     cast-decimal
-    decimal-requires
-    returns-2)
+    (λ c κs. search needs)
+    (λ c. search needs))

@@ -11,9 +11,6 @@ Inv-loop at item rows₀ i₀ rows i = i ≤ 15
 abbrev μ-loop : tie.MeasureT-loop
 μ-loop at item rows₀ i₀ rows i = 15 - i
 
-blank-requires : tie.Need-blank-requires Inv-loop μ-loop
-blank-requires c κs = search needs
-
 loop-holds : tie.Need-loop-holds Inv-loop μ-loop
 loop-holds c = omega arith
 
@@ -25,9 +22,6 @@ mul-row-of c = omega arith
 
 add-row-of-2 : tie.Need-add-row-of-2 Inv-loop μ-loop
 add-row-of-2 c = omega arith
-
-row-of-requires : tie.Need-row-of-requires Inv-loop μ-loop
-row-of-requires c κs = search needs
 
 mul-rows : tie.Need-mul-rows Inv-loop μ-loop
 mul-rows c = omega arith
@@ -47,29 +41,23 @@ loop-again c = omega arith
 array-read-t19 : tie.Need-array-read-t19 Inv-loop μ-loop
 array-read-t19 c = omega arith
 
-cast-t20 : tie.Need-cast-t20 Inv-loop μ-loop
-cast-t20 c = search needs
-
-returns : tie.Need-returns Inv-loop μ-loop
-returns c = search needs
-
 pub of-spec : {M : Type 1} → statement M
 of-spec =
     tie.close
     (tie.spec
     Inv-loop
     μ-loop
-    blank-requires
+    (λ c κs. search needs)
     loop-holds
     add-row-of
     mul-row-of
     add-row-of-2
-    row-of-requires
+    (λ c κs. search needs)
     mul-rows
     array-set-from-rows
     add-i
     loop-less
     loop-again
     array-read-t19
-    cast-t20
-    returns)
+    (λ c. search needs)
+    (λ c. search needs))

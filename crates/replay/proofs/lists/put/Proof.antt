@@ -11,23 +11,14 @@ Inv-loop line₀ at list rows at₀ i₀ line at' i = i ≤ 15
 abbrev μ-loop : tie.MeasureT-loop
 μ-loop line₀ at list rows at₀ i₀ line at' i = 15 - i
 
-decimal-requires : tie.Need-decimal-requires Inv-loop μ-loop
-decimal-requires c κs = search needs
-
 loop-holds : tie.Need-loop-holds Inv-loop μ-loop
 loop-holds c = omega arith
-
-returns : tie.Need-returns Inv-loop μ-loop
-returns c = search needs
 
 mul-row : tie.Need-mul-row Inv-loop μ-loop
 mul-row c = omega arith
 
 array-copy-out-row : tie.Need-array-copy-out-row Inv-loop μ-loop
 array-copy-out-row c = omega arith
-
-put-row-requires : tie.Need-put-row-requires Inv-loop μ-loop
-put-row-requires c κs = search needs
 
 add-i : tie.Need-add-i Inv-loop μ-loop
 add-i c = omega arith
@@ -38,22 +29,19 @@ loop-less c = omega arith
 loop-again : tie.Need-loop-again Inv-loop μ-loop
 loop-again c = omega arith
 
-returns-2 : tie.Need-returns-2 Inv-loop μ-loop
-returns-2 c = search needs
-
 pub put-spec : {M : Type 1} → statement M
 put-spec =
     tie.close
     (tie.spec
     Inv-loop
     μ-loop
-    decimal-requires
+    (λ c κs. search needs)
     loop-holds
-    returns
+    (λ c. search needs)
     mul-row
     array-copy-out-row
-    put-row-requires
+    (λ c κs. search needs)
     add-i
     loop-less
     loop-again
-    returns-2)
+    (λ c. search needs))

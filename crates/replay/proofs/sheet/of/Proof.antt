@@ -17,9 +17,6 @@ loop-holds c = omega arith
 mul-long : tie.Need-mul-long Inv-loop μ-loop
 mul-long c = omega arith
 
-long-requires : tie.Need-long-requires Inv-loop μ-loop
-long-requires c κs = search needs
-
 mul-fields : tie.Need-mul-fields Inv-loop μ-loop
 mul-fields c = omega arith
 
@@ -38,9 +35,6 @@ loop-again c = omega arith
 array-read-t15 : tie.Need-array-read-t15 Inv-loop μ-loop
 array-read-t15 c = omega arith
 
-returns : tie.Need-returns Inv-loop μ-loop
-returns c = search needs
-
 pub of-spec : {M : Type 1} → statement M
 of-spec =
     tie.close
@@ -49,11 +43,11 @@ of-spec =
     μ-loop
     loop-holds
     mul-long
-    long-requires
+    (λ c κs. search needs)
     mul-fields
     array-write-fields
     add-i
     loop-less
     loop-again
     array-read-t15
-    returns)
+    (λ c. search needs))

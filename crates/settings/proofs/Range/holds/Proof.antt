@@ -5,8 +5,6 @@ use borrow.Author.Tests.{le-leb, lt-leb}
 use lib.Dec.{leb}
 use Rattle.settings.proofs.Range.holds.Statement.{statement}
 use Rattle.settings.proofs.Range.holds.Tie as tie
-use Rattle.settings.proofs.Range.holds.Reads as reads
-use Rattle.settings.proofs.Range.holds.Lts as lts
 
 returns : tie.Need-returns
 returns c = rw (lt-leb _ _ (c .if1 .taken))

@@ -12,9 +12,6 @@ use lib.Seq.{drop-cons}
 use Rattle.settings.specs.Sheet.{_to_, ranges as table, within, firstOutside}
 use Rattle.settings.proofs.Settings.first_out_of_range.Statement.{statement}
 use Rattle.settings.proofs.Settings.first_out_of_range.Tie as tie
-use Rattle.settings.proofs.Settings.first_out_of_range.Reads as reads
-use Rattle.settings.proofs.Settings.first_out_of_range.Lts as lts
-use Rattle.settings.proofs.Range.holds.Reads as holds-reads
 
 abbrev Inv-loop : tie.InvT-loop
 Inv-loop fields ranges i₀ number₀ i number = (i ≤ 11) × (number ≡ suc i) × (firstOutside 1 table fields ≡ firstOutside number (drop i table) (drop i fields))
@@ -36,9 +33,6 @@ mul-holds c = omega arith
 
 array-read-holds : tie.Need-array-read-holds Inv-loop μ-loop
 array-read-holds c = omega arith
-
-holds-requires : tie.Need-holds-requires Inv-loop μ-loop
-holds-requires c κs = search needs
 
 -- one turn: what the test of this field says, the rule says
 turn : (c : tie.After-holds Inv-loop μ-loop)
@@ -91,7 +85,7 @@ first-out-of-range-spec =
     array-copy-out-range
     mul-holds
     array-read-holds
-    holds-requires
+    (λ c κs. search needs)
     returns
     add-i
     add-number

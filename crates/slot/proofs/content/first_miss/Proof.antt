@@ -6,11 +6,6 @@ use Rattle.slot.specs.Judging.{placeOf, missesId, missesCycle, missesWor
 use borrow.Author.Needs.{needs}
 use Rattle.slot.proofs.content.first_miss.Statement.{statement}
 use Rattle.slot.proofs.content.first_miss.Tie as tie
-use Rattle.slot.proofs.content.first_miss.Reads as reads
-use Rattle.slot.proofs.content.first_miss.Lts as lts
-use Rattle.slot.proofs.content.misses_words.Reads as misses-words-reads
-use Rattle.slot.proofs.content.misses_clear.Reads as misses-clear-reads
-use Rattle.slot.proofs.content.misses_not_null.Reads as misses-not-null-reads
 
 -- ---- the tests that were passed
 
@@ -49,14 +44,8 @@ returns-2 c =
     let other : missesCycle (placeOf (a .status)) (a .header) ≡ true = ap not (ne-eqb (a .header .cycle .0) (a .status .cycle .0) (c .if2 .taken)) in
     rw (same-id (c .before .before .before), other)
 
-misses-words-requires : tie.Need-misses-words-requires
-misses-words-requires c κs = search needs
-
 returns-3 : tie.Need-returns-3
 returns-3 c = rw (same-id (c .before .before .before .before .before), same-cycle (c .before .before), sym (c .before .«misses-words» .ensures) ∙ c .if3 .taken)
-
-misses-clear-requires : tie.Need-misses-clear-requires
-misses-clear-requires c κs = search needs
 
 returns-4 : tie.Need-returns-4
 returns-4 c =
@@ -66,9 +55,6 @@ returns-4 c =
       same-words (c .before .before),
       sym (c .before .«misses-clear» .ensures) ∙ c .if4 .taken,
     )
-
-misses-not-null-requires : tie.Need-misses-not-null-requires
-misses-not-null-requires c κs = search needs
 
 returns-5 : tie.Need-returns-5
 returns-5 c =
@@ -96,10 +82,10 @@ first-miss-spec =
     (tie.spec
     returns
     returns-2
-    misses-words-requires
+    (λ c κs. search needs)
     returns-3
-    misses-clear-requires
+    (λ c κs. search needs)
     returns-4
-    misses-not-null-requires
+    (λ c κs. search needs)
     returns-5
     returns-6)

@@ -5,12 +5,6 @@ use Rattle.slot.specs.Judging.{placeOf, isStatic}
 use borrow.Author.Needs.{needs}
 use Rattle.slot.proofs.content.misses_clear.Statement.{statement}
 use Rattle.slot.proofs.content.misses_clear.Tie as tie
-use Rattle.slot.proofs.content.misses_clear.Reads as reads
-use Rattle.slot.proofs.content.misses_clear.Lts as lts
-use Rattle.slot.proofs.content.is_static.Reads as is-static-reads
-
-is-static-requires : tie.Need-is-static-requires
-is-static-requires c κs = search needs
 
 returns : tie.Need-returns
 returns c =
@@ -28,4 +22,4 @@ returns-3 c =
     rw (dynamic, c .if2 .left)
 
 pub misses-clear-spec : {M : Type 1} → statement M
-misses-clear-spec = tie.close (tie.spec is-static-requires returns returns-2 returns-3)
+misses-clear-spec = tie.close (tie.spec (λ c κs. search needs) returns returns-2 returns-3)

@@ -5,12 +5,6 @@ use Rattle.slot.specs.Judging.{placeOf, isStatic}
 use borrow.Author.Needs.{needs}
 use Rattle.slot.proofs.content.misses_not_null.Statement.{statement}
 use Rattle.slot.proofs.content.misses_not_null.Tie as tie
-use Rattle.slot.proofs.content.misses_not_null.Reads as reads
-use Rattle.slot.proofs.content.misses_not_null.Lts as lts
-use Rattle.slot.proofs.content.is_static.Reads as is-static-reads
-
-is-static-requires : tie.Need-is-static-requires
-is-static-requires c κs = search needs
 
 returns : tie.Need-returns
 returns c =
@@ -24,4 +18,4 @@ returns-2 c =
     sym (ap (λ (b : Bool). not b && not (a .header .«null_frame_bit»)) dynamic)
 
 pub misses-not-null-spec : {M : Type 1} → statement M
-misses-not-null-spec = tie.close (tie.spec is-static-requires returns returns-2)
+misses-not-null-spec = tie.close (tie.spec (λ c κs. search needs) returns returns-2)

@@ -16,14 +16,6 @@ use Rattle.slot.proofs.OpeningLaws.{open-says}
 use borrow.Author.Needs.{needs}
 use Rattle.slot.proofs.opening.open_slot.Statement.{statement}
 use Rattle.slot.proofs.opening.open_slot.Tie as tie
-use Rattle.slot.proofs.opening.open_slot.Reads as reads
-use Rattle.slot.proofs.opening.open_slot.Lts as lts
-use Rattle.checksum.proofs.Channel.named.Reads as named-reads
-use Rattle.header.proofs.Cycle.is_too_high.Reads as is-too-high-reads
-use Rattle.header.proofs.Slot.is_not_an_id.Reads as is-not-an-id-reads
-use Rattle.settings.proofs.Settings.first_out_of_range.Reads as first-out-of-range-reads
-use Rattle.slot.proofs.opening.refused.Reads as refused-reads
-use Rattle.slot.proofs.status.Status.fresh.Reads as fresh-reads
 
 -- ---- the tests that were passed
 

@@ -10,12 +10,6 @@ use Rattle.slot.specs.Sound.{couldBeRead}
 use borrow.Author.Needs.{needs}
 use Rattle.slot.proofs.sound.could_be_read.Statement.{statement}
 use Rattle.slot.proofs.sound.could_be_read.Tie as tie
-use Rattle.slot.proofs.sound.could_be_read.Reads as reads
-use Rattle.slot.proofs.sound.could_be_read.Lts as lts
-use Rattle.header.proofs.Cycle.is_too_high.Reads as is-too-high-reads
-use Rattle.header.proofs.Header.checksum_due.Reads as checksum-due-reads
-use Rattle.header.proofs.Slot.is_not_an_id.Reads as is-not-an-id-reads
-use Rattle.header.proofs.startup_without_sync.Reads as startup-without-sync-reads
 
 an-id : (c : tie.Else1) → notAnId (c .before .before .args .header .id .0) ≡ false
 an-id c = sym (c .before .«is-not-an-id» .ensures) ∙ c .if1 .left
@@ -31,23 +25,14 @@ checksum-left : (h : Header) → notAnId (h .id .0) ≡ false → leb (h .words)
     → startupWithoutSync (h .startup) (h .sync) ≡ false → couldBeRead h ≡ eqb (h .checksum) (headerChecksumOf h)
 checksum-left h id words cycle startup = rw (id, words, cycle, startup)
 
-is-not-an-id-requires : tie.Need-is-not-an-id-requires
-is-not-an-id-requires c κs = search needs
-
 returns : tie.Need-returns
 returns c = rw (sym (c .before .«is-not-an-id» .ensures) ∙ c .if1 .taken)
 
 returns-2 : tie.Need-returns-2
 returns-2 c = rw (an-id (c .before .before), lt-leb _ _ (c .if2 .taken))
 
-is-too-high-requires : tie.Need-is-too-high-requires
-is-too-high-requires c κs = search needs
-
 returns-3 : tie.Need-returns-3
 returns-3 c = rw (an-id (c .before .before .before .before), words (c .before .before), sym (c .before .«is-too-high» .ensures) ∙ c .if3 .taken)
-
-startup-without-sync-requires : tie.Need-startup-without-sync-requires
-startup-without-sync-requires c κs = search needs
 
 returns-4 : tie.Need-returns-4
 returns-4 c =
@@ -57,9 +42,6 @@ returns-4 c =
       cycle (c .before .before),
       sym (c .before .«startup-without-sync» .ensures) ∙ c .if4 .taken,
     )
-
-checksum-due-requires : tie.Need-checksum-due-requires
-checksum-due-requires c κs = search needs
 
 returns-5 : tie.Need-returns-5
 returns-5 c =
@@ -75,12 +57,12 @@ pub could-be-read-spec : {M : Type 1} → statement M
 could-be-read-spec =
     tie.close
     (tie.spec
-    is-not-an-id-requires
+    (λ c κs. search needs)
     returns
     returns-2
-    is-too-high-requires
+    (λ c κs. search needs)
     returns-3
-    startup-without-sync-requires
+    (λ c κs. search needs)
     returns-4
-    checksum-due-requires
+    (λ c κs. search needs)
     returns-5)

@@ -7,15 +7,6 @@ use Rattle.slot.specs.Sound.{wouldOpen, keepsWell, exactlyWith}
 use borrow.Author.Needs.{needs}
 use Rattle.slot.proofs.sound.is_sound.Statement.{statement}
 use Rattle.slot.proofs.sound.is_sound.Tie as tie
-use Rattle.slot.proofs.sound.is_sound.Reads as reads
-use Rattle.slot.proofs.sound.is_sound.Lts as lts
-use Rattle.slot.proofs.flags.both.Reads as both-reads
-use Rattle.slot.proofs.flags.exactly_with.Reads as exactly-with-reads
-use Rattle.slot.proofs.sound.keeps_well.Reads as keeps-well-reads
-use Rattle.slot.proofs.sound.would_open.Reads as would-open-reads
-use Rattle.slot.proofs.status.Kept.is_frame.Reads as is-frame-reads
-use Rattle.slot.proofs.status.Reason.is_reason.Reads as is-reason-reads
-use Rattle.slot.proofs.status.Status.has_arrival.Reads as has-arrival-reads
 
 -- ---- what each test says of the status
 
@@ -55,26 +46,11 @@ well c = kept (c .before) ∙ not-false (c .before .«keeps-well» .result) (c .
 
 -- ---- each return
 
-would-open-requires : tie.Need-would-open-requires
-would-open-requires c κs = search needs
-
 returns : tie.Need-returns
 returns c = rw (opens (c .before) ∙ not-true (c .before .«would-open» .result) (c .if1 .taken))
 
-is-reason-requires : tie.Need-is-reason-requires
-is-reason-requires c κs = search needs
-
-exactly-with-requires : tie.Need-exactly-with-requires
-exactly-with-requires c κs = search needs
-
 returns-2 : tie.Need-returns-2
 returns-2 c = rw (opened (c .before .before .before), content (c .before) ∙ not-true (c .before .«exactly-with» .result) (c .if2 .taken))
-
-is-frame-requires : tie.Need-is-frame-requires
-is-frame-requires c κs = search needs
-
-exactly-with-requires-2 : tie.Need-exactly-with-requires-2
-exactly-with-requires-2 c κs = search needs
 
 returns-3 : tie.Need-returns-3
 returns-3 c =
@@ -84,9 +60,6 @@ returns-3 c =
       valid (c .before) ∙ not-true (c .before .«exactly-with2» .result) (c .if3 .taken),
     )
 
-keeps-well-requires : tie.Need-keeps-well-requires
-keeps-well-requires c κs = search needs
-
 returns-4 : tie.Need-returns-4
 returns-4 c =
     rw (
@@ -95,15 +68,6 @@ returns-4 c =
       with-valid (c .before .before),
       kept (c .before) ∙ not-true (c .before .«keeps-well» .result) (c .if4 .taken),
     )
-
-has-arrival-requires : tie.Need-has-arrival-requires
-has-arrival-requires c κs = search needs
-
-both-requires : tie.Need-both-requires
-both-requires c κs = search needs
-
-exactly-with-requires-3 : tie.Need-exactly-with-requires-3
-exactly-with-requires-3 c κs = search needs
 
 returns-5 : tie.Need-returns-5
 returns-5 c =
@@ -124,17 +88,17 @@ pub is-sound-spec : {M : Type 1} → statement M
 is-sound-spec =
     tie.close
     (tie.spec
-    would-open-requires
+    (λ c κs. search needs)
     returns
-    is-reason-requires
-    exactly-with-requires
+    (λ c κs. search needs)
+    (λ c κs. search needs)
     returns-2
-    is-frame-requires
-    exactly-with-requires-2
+    (λ c κs. search needs)
+    (λ c κs. search needs)
     returns-3
-    keeps-well-requires
+    (λ c κs. search needs)
     returns-4
-    has-arrival-requires
-    both-requires
-    exactly-with-requires-3
+    (λ c κs. search needs)
+    (λ c κs. search needs)
+    (λ c κs. search needs)
     returns-5)

@@ -8,11 +8,6 @@ use Rattle.slot.specs.Sound.{couldBeRead, keepsWell}
 use borrow.Author.Needs.{needs}
 use Rattle.slot.proofs.sound.keeps_well.Statement.{statement}
 use Rattle.slot.proofs.sound.keeps_well.Tie as tie
-use Rattle.slot.proofs.sound.keeps_well.Reads as reads
-use Rattle.slot.proofs.sound.keeps_well.Lts as lts
-use Rattle.slot.proofs.content.first_miss.Reads as first-miss-reads
-use Rattle.slot.proofs.sound.could_be_read.Reads as could-be-read-reads
-use Rattle.slot.proofs.status.Reason.is_reason.Reads as is-reason-reads
 
 enum-known-kept : tie.Need-enum-known-kept
 enum-known-kept c = search needs

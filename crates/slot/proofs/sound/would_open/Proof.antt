@@ -11,18 +11,10 @@ use Rattle.checksum.proofs.ChannelLaws.{is-a-channel}
 use borrow.Author.Needs.{needs}
 use Rattle.slot.proofs.sound.would_open.Statement.{statement}
 use Rattle.slot.proofs.sound.would_open.Tie as tie
-use Rattle.slot.proofs.sound.would_open.Reads as reads
-use Rattle.slot.proofs.sound.would_open.Lts as lts
-use Rattle.header.proofs.Cycle.is_too_high.Reads as is-too-high-reads
-use Rattle.header.proofs.Slot.is_not_an_id.Reads as is-not-an-id-reads
-use Rattle.settings.proofs.Settings.first_out_of_range.Reads as first-out-of-range-reads
 
 sheet-in-range : (c : tie.Else1) → outOfRange (c .before .before .args .status .settings) ≡ false
 sheet-in-range c =
     in-range (c .before .before .args .status .settings) (c .before .«first-out-of-range» .result) (c .before .«first-out-of-range» .ensures) (c .if1 .left)
-
-first-out-of-range-requires : tie.Need-first-out-of-range-requires
-first-out-of-range-requires c κs = search needs
 
 returns : tie.Need-returns
 returns c =
@@ -31,9 +23,6 @@ returns c =
     out-of-range (s .settings) (c .before .«first-out-of-range» .result) (c .before .«first-out-of-range» .ensures) (c .if1 .taken) in
     sym (ap (λ (n : ℕ). eqb n 0) (first-here 17 _ out))
 
-is-not-an-id-requires : tie.Need-is-not-an-id-requires
-is-not-an-id-requires c κs = search needs
-
 returns-2 : tie.Need-returns-2
 returns-2 c =
     let s = c .before .before .before .before .args .status in
@@ -41,9 +30,6 @@ returns-2 c =
     sym
     (ap (λ (n : ℕ). eqb n 0)
     (first-skip 17 _ (sheet-in-range (c .before .before)) ∙ first-skip 1 _ (is-a-channel (s .channel)) ∙ first-here 9 _ out))
-
-is-too-high-requires : tie.Need-is-too-high-requires
-is-too-high-requires c κs = search needs
 
 returns-3 : tie.Need-returns-3
 returns-3 c =
@@ -59,9 +45,9 @@ pub would-open-spec : {M : Type 1} → statement M
 would-open-spec =
     tie.close
     (tie.spec
-    first-out-of-range-requires
+    (λ c κs. search needs)
     returns
-    is-not-an-id-requires
+    (λ c κs. search needs)
     returns-2
-    is-too-high-requires
+    (λ c κs. search needs)
     returns-3)

@@ -2,8 +2,6 @@
 use borrow.Author.Needs.{needs}
 use Rattle.sync_list.proofs.places.ids_of.Statement.{statement}
 use Rattle.sync_list.proofs.places.ids_of.Tie as tie
-use Rattle.sync_list.proofs.places.ids_of.Reads as reads
-use Rattle.sync_list.proofs.places.ids_of.Lts as lts
 use Prim.Native.Nat.{_≤_, _<_, _-_}
 use mathlib.Core.Path.{_≡_, refl, _∙_}
 use mathlib.Core.List.{_++_, append-nil}

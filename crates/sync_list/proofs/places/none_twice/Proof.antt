@@ -1,9 +1,6 @@
 -- `none_twice` meets its contract: the invariant is that what the rows to come say is what all of them say.
 use Rattle.sync_list.proofs.places.none_twice.Statement.{statement}
 use Rattle.sync_list.proofs.places.none_twice.Tie as tie
-use Rattle.sync_list.proofs.places.none_twice.Reads as reads
-use Rattle.sync_list.proofs.places.none_twice.Lts as lts
-use Rattle.sync_list.proofs.places.place_from.Reads as place-from-reads
 use Prim.Native.Nat.{ℕ, _≤_, _<_, _-_, _+_, suc}
 use mathlib.Core.Path.{_≡_, refl, sym, ap, _∙_}
 use mathlib.Core.Bool.{true, false}

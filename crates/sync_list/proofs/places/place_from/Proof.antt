@@ -1,8 +1,6 @@
 -- `place_from` meets its contract: the invariant is that the place is not among those passed.
 use Rattle.sync_list.proofs.places.place_from.Statement.{statement}
 use Rattle.sync_list.proofs.places.place_from.Tie as tie
-use Rattle.sync_list.proofs.places.place_from.Reads as reads
-use Rattle.sync_list.proofs.places.place_from.Lts as lts
 use Prim.Native.Nat.{_≤_, _<_, _-_, _+_, suc}
 use mathlib.Core.Path.{_≡_, refl}
 use native.Mathlib.Numerals.{add-one}

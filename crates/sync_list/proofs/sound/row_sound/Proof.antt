@@ -2,11 +2,6 @@
 use borrow.Author.Needs.{needs}
 use Rattle.sync_list.proofs.sound.row_sound.Statement.{statement}
 use Rattle.sync_list.proofs.sound.row_sound.Tie as tie
-use Rattle.sync_list.proofs.sound.row_sound.Reads as reads
-use Rattle.sync_list.proofs.sound.row_sound.Lts as lts
-use Rattle.header.proofs.Slot.is_not_an_id.Reads as is-not-an-id-reads
-use Rattle.sync_list.proofs.sound.is_in_range.Reads as is-in-range-reads
-use Rattle.sync_list.proofs.sound.is_measured_on_one.Reads as is-measured-on-one-reads
 use mathlib.Core.Path.{_≡_, sym, _∙_}
 use mathlib.Core.Bool.{true, false, _||_}
 use borrow.Author.Tests.{not-true, not-false}
@@ -24,26 +19,14 @@ is-there c = sym (c .before .is-measured-on-one .ensures) ∙ not-false (c .befo
 is-in-range-a : (c : tie.Else3) → isInRange (c .before .before .before .before .before .before .args .row .«on_a») ≡ true
 is-in-range-a c = sym (c .before .is-in-range .ensures) ∙ not-false (c .before .is-in-range .result) (c .if3 .left)
 
-is-not-an-id-requires : tie.Need-is-not-an-id-requires
-is-not-an-id-requires c κs = search needs
-
 returns : tie.Need-returns
 returns c = rw (sym (c .before .is-not-an-id .ensures) ∙ c .if1 .taken)
-
-is-measured-on-one-requires : tie.Need-is-measured-on-one-requires
-is-measured-on-one-requires c κs = search needs
 
 returns-2 : tie.Need-returns-2
 returns-2 c = rw (is-an-id (c .before .before), sym (c .before .is-measured-on-one .ensures) ∙ not-true (c .before .is-measured-on-one .result) (c .if2 .taken))
 
-is-in-range-requires : tie.Need-is-in-range-requires
-is-in-range-requires c κs = search needs
-
 returns-3 : tie.Need-returns-3
 returns-3 c = rw (is-an-id (c .before .before .before .before), is-there (c .before .before), sym (c .before .is-in-range .ensures) ∙ not-true (c .before .is-in-range .result) (c .if3 .taken))
-
-is-in-range-requires-2 : tie.Need-is-in-range-requires-2
-is-in-range-requires-2 c κs = search needs
 
 returns-4 : tie.Need-returns-4
 returns-4 c = rw (is-an-id (c .before .before .before .before .before), is-there (c .before .before .before), is-in-range-a (c .before)) (c .is-in-range2 .ensures)
@@ -52,11 +35,11 @@ pub row-sound-spec : {M : Type 1} → statement M
 row-sound-spec =
     tie.close
     (tie.spec
-    is-not-an-id-requires
+    (λ c κs. search needs)
     returns
-    is-measured-on-one-requires
+    (λ c κs. search needs)
     returns-2
-    is-in-range-requires
+    (λ c κs. search needs)
     returns-3
-    is-in-range-requires-2
+    (λ c κs. search needs)
     returns-4)

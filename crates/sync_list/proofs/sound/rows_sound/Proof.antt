@@ -2,9 +2,6 @@
 use borrow.Author.Needs.{needs}
 use Rattle.sync_list.proofs.sound.rows_sound.Statement.{statement}
 use Rattle.sync_list.proofs.sound.rows_sound.Tie as tie
-use Rattle.sync_list.proofs.sound.rows_sound.Reads as reads
-use Rattle.sync_list.proofs.sound.rows_sound.Lts as lts
-use Rattle.sync_list.proofs.sound.row_sound.Reads as row-sound-reads
 use Prim.Native.Nat.{_≤_, _<_, _-_}
 use mathlib.Core.Path.{_≡_, refl, sym, _∙_}
 use mathlib.Core.Bool.{true, false}
@@ -31,9 +28,6 @@ mul-row c = omega arith
 
 array-copy-out-row : tie.Need-array-copy-out-row Inv-loop μ-loop
 array-copy-out-row c = omega arith
-
-row-sound-requires : tie.Need-row-sound-requires Inv-loop μ-loop
-row-sound-requires c κs = search needs
 
 returns : tie.Need-returns Inv-loop μ-loop
 unfolding rowsSound
@@ -80,7 +74,7 @@ rows-sound-spec =
     loop-holds
     mul-row
     array-copy-out-row
-    row-sound-requires
+    (λ c κs. search needs)
     returns
     add-i
     loop-less

@@ -2,8 +2,6 @@
 use borrow.Author.Needs.{needs}
 use Rattle.sync_list.proofs.values.lay.Statement.{statement}
 use Rattle.sync_list.proofs.values.lay.Tie as tie
-use Rattle.sync_list.proofs.values.lay.Reads as reads
-use Rattle.sync_list.proofs.values.lay.Lts as lts
 use Prim.Native.Nat.{_<_}
 use mathlib.Core.Path.{sym, _∙_}
 use mathlib.Core.List.{append-nil}
@@ -16,25 +14,10 @@ use mir.Val.{SFits}
 use mir.Facts.{toZ-ofZ}
 use Rattle.sync_list.proofs.ValueLaws.{zeros-next}
 
-enum-known-value : tie.Need-enum-known-value
-enum-known-value c = search needs
-
-enum-told : tie.Need-enum-told
-enum-told c = search needs
-
 returns : tie.Need-returns
 returns c =
     let s = c .before .before in
     (rw (c .enum-told .given .1) (sym (append-nil (take (s .args .count) (s .args .numbers .now)))), (omega arith, s .pre .1, s .pre .2))
-
-mul-number : tie.Need-mul-number
-mul-number c = search needs
-
-element-set-from-number : tie.Need-element-set-from-number
-element-set-from-number c = search needs
-
-add-result : tie.Need-add-result
-add-result c = search needs
 
 returns-2 : tie.Need-returns-2
 returns-2 c =
@@ -52,10 +35,10 @@ pub lay-spec : {M : Type 1} → statement M
 lay-spec =
     tie.close
     (tie.spec
-    enum-known-value
-    enum-told
+    (λ c. search needs)
+    (λ c. search needs)
     returns
-    mul-number
-    element-set-from-number
-    add-result
+    (λ c. search needs)
+    (λ c. search needs)
+    (λ c. search needs)
     returns-2)

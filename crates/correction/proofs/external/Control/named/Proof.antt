@@ -1,8 +1,6 @@
 -- `named` meets its contract: the three numbers that name a control, and no other.
 use Rattle.correction.proofs.external.Control.named.Statement.{statement}
 use Rattle.correction.proofs.external.Control.named.Tie as tie
-use Rattle.correction.proofs.external.Control.named.Reads as reads
-use Rattle.correction.proofs.external.Control.named.Lts as lts
 use mathlib.Core.Path.{_≡_, sym, ap, _∙_}
 use lib.IntN.{pos, negsuc}
 use mir.Syntax.{w32}

@@ -2,8 +2,6 @@
 use borrow.Author.Needs.{needs}
 use Rattle.correction.proofs.microtick.SignedMicrotick.is_deviation.Statement.{statement}
 use Rattle.correction.proofs.microtick.SignedMicrotick.is_deviation.Tie as tie
-use Rattle.correction.proofs.microtick.SignedMicrotick.is_deviation.Reads as reads
-use Rattle.correction.proofs.microtick.SignedMicrotick.is_deviation.Lts as lts
 use mathlib.Core.Path.{_≡_}
 use mathlib.Core.Bool.{true, false}
 use lib.Signed.{leZ, ltZ}

@@ -2,8 +2,6 @@
 use borrow.Author.Needs.{needs}
 use Rattle.correction.proofs.term.Values.has_none.Statement.{statement}
 use Rattle.correction.proofs.term.Values.has_none.Tie as tie
-use Rattle.correction.proofs.term.Values.has_none.Reads as reads
-use Rattle.correction.proofs.term.Values.has_none.Lts as lts
 use mathlib.Core.Path.{_≡_}
 use lib.ListN.{length}
 use Rattle.correction.proofs.TermLaws.{none-counted}

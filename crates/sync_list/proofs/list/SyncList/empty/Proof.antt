@@ -2,9 +2,6 @@
 use borrow.Author.Needs.{needs}
 use Rattle.sync_list.proofs.list.SyncList.empty.Statement.{statement}
 use Rattle.sync_list.proofs.list.SyncList.empty.Tie as tie
-use Rattle.sync_list.proofs.list.SyncList.empty.Reads as reads
-use Rattle.sync_list.proofs.list.SyncList.empty.Lts as lts
-use Rattle.sync_list.proofs.row.Row.blank.Reads as blank-reads
 use mathlib.Core.Path.{ap}
 use lib.ListN.{replicate}
 use Rattle.sync_list.specs.declared.row.Row.{Row}
@@ -14,11 +11,8 @@ use Rattle.sync_list.specs.Lists.{rowCount}
 abbrev listOf : Row → SyncList
 listOf row = record { rows = replicate rowCount row; count = 0 }
 
-blank-requires : tie.Need-blank-requires
-blank-requires c κs = search needs
-
 returns : tie.Need-returns
 returns c = ap listOf (c .blank .ensures)
 
 pub empty-spec : {M : Type 1} → statement M
-empty-spec = tie.close (tie.spec blank-requires returns)
+empty-spec = tie.close (tie.spec (λ c κs. search needs) returns)

@@ -2,10 +2,6 @@
 use borrow.Author.Needs.{needs}
 use Rattle.sync_list.proofs.list.SyncList.is_full_for.Statement.{statement}
 use Rattle.sync_list.proofs.list.SyncList.is_full_for.Tie as tie
-use Rattle.sync_list.proofs.list.SyncList.is_full_for.Reads as reads
-use Rattle.sync_list.proofs.list.SyncList.is_full_for.Lts as lts
-use Rattle.sync_list.proofs.list.SyncList.listed.Reads as listed-reads
-use Rattle.sync_list.proofs.list.SyncList.place.Reads as place-reads
 use mathlib.Core.Path.{_≡_, sym, ap, _∙_}
 use lib.ListN.{length}
 use Rattle.numbers.proofs.Walk.{length-of-mapped, cases}
@@ -21,12 +17,6 @@ long c = search (needs, length-of-mapped)
 returns : tie.Need-returns
 returns c = rw (lt-leb _ _ (c .if1 .taken))
 
-listed-requires : tie.Need-listed-requires
-listed-requires c κs = search needs
-
-place-requires : tie.Need-place-requires
-place-requires c κs = search needs
-
 returns-2 : tie.Need-returns-2
 returns-2 c =
     let a = c .before .before .before .before .args in
@@ -39,4 +29,4 @@ returns-2 c =
     (λ t. t ∙ sym (ap not (is-listed (a .self) lg (a .id) p (c .place .ensures) (rw (c .before .listed .ensures) at (leb-false n p t))))))
 
 pub is-full-for-spec : {M : Type 1} → statement M
-is-full-for-spec = tie.close (tie.spec returns listed-requires place-requires returns-2)
+is-full-for-spec = tie.close (tie.spec returns (λ c κs. search needs) (λ c κs. search needs) returns-2)

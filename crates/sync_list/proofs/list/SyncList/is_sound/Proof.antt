@@ -2,12 +2,6 @@
 use borrow.Author.Needs.{needs}
 use Rattle.sync_list.proofs.list.SyncList.is_sound.Statement.{statement}
 use Rattle.sync_list.proofs.list.SyncList.is_sound.Tie as tie
-use Rattle.sync_list.proofs.list.SyncList.is_sound.Reads as reads
-use Rattle.sync_list.proofs.list.SyncList.is_sound.Lts as lts
-use Rattle.sync_list.proofs.list.SyncList.listed.Reads as listed-reads
-use Rattle.sync_list.proofs.places.ids_of.Reads as ids-of-reads
-use Rattle.sync_list.proofs.places.none_twice.Reads as none-twice-reads
-use Rattle.sync_list.proofs.sound.rows_sound.Reads as rows-sound-reads
 use mathlib.Core.Path.{_≡_, sym, ap, _∙_}
 use mathlib.Core.Bool.{true}
 use borrow.Author.Tests.{lt-leb, le-leb, not-true, not-false}
@@ -39,9 +33,6 @@ rows-are c =
 returns : tie.Need-returns
 returns c = rw (lt-leb _ _ (c .if1 .taken))
 
-listed-requires : tie.Need-listed-requires
-listed-requires c κs = search needs
-
 rows-sound-requires : tie.Need-rows-sound-requires
 rows-sound-requires c κs = few c
 
@@ -49,9 +40,6 @@ returns-2 : tie.Need-returns-2
 returns-2 c =
     let unsound = rows-are (c .before) ∙ not-true (c .before .rows-sound .result) (c .if2 .taken) in
     rw (within-limit (c .before .before .before .before), unsound)
-
-ids-of-requires : tie.Need-ids-of-requires
-ids-of-requires c κs = search needs
 
 none-twice-requires : tie.Need-none-twice-requires
 none-twice-requires c κs =
@@ -74,9 +62,9 @@ is-sound-spec =
     tie.close
     (tie.spec
     returns
-    listed-requires
+    (λ c κs. search needs)
     rows-sound-requires
     returns-2
-    ids-of-requires
+    (λ c κs. search needs)
     none-twice-requires
     returns-3)

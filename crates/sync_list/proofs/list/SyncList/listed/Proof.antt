@@ -1,8 +1,6 @@
 -- `listed` meets its contract: the count, or fifteen where it is above.
 use Rattle.sync_list.proofs.list.SyncList.listed.Statement.{statement}
 use Rattle.sync_list.proofs.list.SyncList.listed.Tie as tie
-use Rattle.sync_list.proofs.list.SyncList.listed.Reads as reads
-use Rattle.sync_list.proofs.list.SyncList.listed.Lts as lts
 use borrow.Author.Tests.{lt-ltb, le-ltb}
 
 returns : tie.Need-returns

@@ -2,12 +2,6 @@
 use borrow.Author.Needs.{needs}
 use Rattle.sync_list.proofs.list.SyncList.offset_values.Statement.{statement}
 use Rattle.sync_list.proofs.list.SyncList.offset_values.Tie as tie
-use Rattle.sync_list.proofs.list.SyncList.offset_values.Reads as reads
-use Rattle.sync_list.proofs.list.SyncList.offset_values.Lts as lts
-use Rattle.correction.proofs.offset_value.Reads as offset-value-reads
-use Rattle.sync_list.proofs.list.SyncList.listed.Reads as listed-reads
-use Rattle.sync_list.proofs.row.Row.deviations.Reads as deviations-reads
-use Rattle.sync_list.proofs.values.lay.Reads as lay-reads
 use Prim.Native.Nat.{_≤_, _<_, _-_, suc, ℕ}
 use mathlib.Core.Path.{_≡_, refl, ap, _∙_}
 use mathlib.Core.List.{[], _∷_}
@@ -53,9 +47,6 @@ are-listed c =
     ap (λ (n : ℕ). take n (c .before .before .args .self .rows)) (c .listed .ensures)
     ∙ listed-rows (c .before .before .args .self) (long (c .before .before))
 
-listed-requires : tie.Need-listed-requires Inv-loop μ-loop
-listed-requires c κs = search needs
-
 loop-holds : tie.Need-loop-holds Inv-loop μ-loop
 loop-holds c = (few c, omega arith, omega arith, refl, refl, refl)
 
@@ -64,12 +55,6 @@ mul-row c = omega arith
 
 array-copy-out-row : tie.Need-array-copy-out-row Inv-loop μ-loop
 array-copy-out-row c = omega arith
-
-deviations-requires : tie.Need-deviations-requires Inv-loop μ-loop
-deviations-requires c κs = search needs
-
-offset-value-requires : tie.Need-offset-value-requires Inv-loop μ-loop
-offset-value-requires c κs = search needs
 
 lay-requires : tie.Need-lay-requires Inv-loop μ-loop
 lay-requires c κs = (omega arith, omega arith, search needs)
@@ -118,12 +103,12 @@ offset-values-spec =
     (tie.spec
     Inv-loop
     μ-loop
-    listed-requires
+    (λ c κs. search needs)
     loop-holds
     mul-row
     array-copy-out-row
-    deviations-requires
-    offset-value-requires
+    (λ c κs. search needs)
+    (λ c κs. search needs)
     lay-requires
     add-i
     loop-less

@@ -2,11 +2,6 @@
 use borrow.Author.Needs.{needs}
 use Rattle.sync_list.proofs.list.SyncList.place.Statement.{statement}
 use Rattle.sync_list.proofs.list.SyncList.place.Tie as tie
-use Rattle.sync_list.proofs.list.SyncList.place.Reads as reads
-use Rattle.sync_list.proofs.list.SyncList.place.Lts as lts
-use Rattle.sync_list.proofs.list.SyncList.listed.Reads as listed-reads
-use Rattle.sync_list.proofs.places.ids_of.Reads as ids-of-reads
-use Rattle.sync_list.proofs.places.place_from.Reads as place-from-reads
 use mathlib.Core.Path.{_≡_, _∙_}
 use lib.ListN.{length, length-map}
 use Rattle.numbers.proofs.Walk.{length-of-mapped}
@@ -16,12 +11,6 @@ use Rattle.sync_list.proofs.ListLaws.{listed-few, ids-place}
 
 long : (c : tie.Start) → length (c .args .self .rows) ≡ rowCount
 long c = search (needs, length-of-mapped)
-
-listed-requires : tie.Need-listed-requires
-listed-requires c κs = search needs
-
-ids-of-requires : tie.Need-ids-of-requires
-ids-of-requires c κs = search needs
 
 place-from-requires : tie.Need-place-from-requires
 place-from-requires c κs =
@@ -40,4 +29,4 @@ returns c =
     (c .before .before .before .listed .ensures) (c .before .before .ids-of .ensures)
 
 pub place-spec : {M : Type 1} → statement M
-place-spec = tie.close (tie.spec listed-requires ids-of-requires place-from-requires returns)
+place-spec = tie.close (tie.spec (λ c κs. search needs) (λ c κs. search needs) place-from-requires returns)

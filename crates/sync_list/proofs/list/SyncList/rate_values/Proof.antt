@@ -2,15 +2,6 @@
 use borrow.Author.Needs.{needs}
 use Rattle.sync_list.proofs.list.SyncList.rate_values.Statement.{statement}
 use Rattle.sync_list.proofs.list.SyncList.rate_values.Tie as tie
-use Rattle.sync_list.proofs.list.SyncList.rate_values.Reads as reads
-use Rattle.sync_list.proofs.list.SyncList.rate_values.Lts as lts
-use Rattle.correction.proofs.rate_value.Reads as rate-value-reads
-use Rattle.sync_list.proofs.list.SyncList.listed.Reads as listed-reads
-use Rattle.sync_list.proofs.places.ids_of.Reads as ids-of-reads
-use Rattle.sync_list.proofs.places.place_from.Reads as place-from-reads
-use Rattle.sync_list.proofs.row.Row.blank.Reads as blank-reads
-use Rattle.sync_list.proofs.row.Row.deviations.Reads as deviations-reads
-use Rattle.sync_list.proofs.values.lay.Reads as lay-reads
 use Prim.Native.Nat.{ℕ, _≤_, _<_, _-_, suc}
 use mathlib.Core.Path.{_≡_, refl, sym, ap, _∙_}
 use mathlib.Core.List.{List, [], _∷_}
@@ -98,15 +89,6 @@ even-row-is c =
     ∙ row-absent even (even-long s) id (p .result) place (rw (k .before .listed2 .ensures) at (w .0 .left))
     ∙ sym (ap (rowIn id) (even-listed-are (k .before))))
 
-listed-requires : tie.Need-listed-requires Inv-loop μ-loop
-listed-requires c κs = search needs
-
-listed-requires-2 : tie.Need-listed-requires-2 Inv-loop μ-loop
-listed-requires-2 c κs = search needs
-
-ids-of-requires : tie.Need-ids-of-requires Inv-loop μ-loop
-ids-of-requires c κs = search needs
-
 loop-holds : tie.Need-loop-holds Inv-loop μ-loop
 loop-holds c = (few (c .before .before .before), omega arith, omega arith, refl, refl, refl)
 
@@ -124,23 +106,11 @@ place-from-requires c κs =
       rw (k .ids-of .ensures) (length-map (k .before .before .before .before .before .args .even .rows) idOf ∙ even-long (k .before .before .before .before .before)),
     )
 
-blank-requires : tie.Need-blank-requires Inv-loop μ-loop
-blank-requires c κs = search needs
-
 mul-even-row : tie.Need-mul-even-row Inv-loop μ-loop
 mul-even-row c = let h = in-even c in omega arith
 
 array-copy-out-even-row : tie.Need-array-copy-out-even-row Inv-loop μ-loop
 array-copy-out-even-row c = in-even c
-
-deviations-requires : tie.Need-deviations-requires Inv-loop μ-loop
-deviations-requires c κs = search needs
-
-deviations-requires-2 : tie.Need-deviations-requires-2 Inv-loop μ-loop
-deviations-requires-2 c κs = search needs
-
-rate-value-requires : tie.Need-rate-value-requires Inv-loop μ-loop
-rate-value-requires c κs = search needs
 
 lay-requires : tie.Need-lay-requires Inv-loop μ-loop
 lay-requires c κs = (omega arith, omega arith, search needs)
@@ -197,19 +167,19 @@ rate-values-spec =
     (tie.spec
     Inv-loop
     μ-loop
-    listed-requires
-    listed-requires-2
-    ids-of-requires
+    (λ c κs. search needs)
+    (λ c κs. search needs)
+    (λ c κs. search needs)
     loop-holds
     mul-row
     array-copy-out-row
     place-from-requires
-    blank-requires
+    (λ c κs. search needs)
     mul-even-row
     array-copy-out-even-row
-    deviations-requires
-    deviations-requires-2
-    rate-value-requires
+    (λ c κs. search needs)
+    (λ c κs. search needs)
+    (λ c κs. search needs)
     lay-requires
     add-i
     loop-less

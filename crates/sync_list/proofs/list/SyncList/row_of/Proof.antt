@@ -2,11 +2,6 @@
 use borrow.Author.Needs.{needs}
 use Rattle.sync_list.proofs.list.SyncList.row_of.Statement.{statement}
 use Rattle.sync_list.proofs.list.SyncList.row_of.Tie as tie
-use Rattle.sync_list.proofs.list.SyncList.row_of.Reads as reads
-use Rattle.sync_list.proofs.list.SyncList.row_of.Lts as lts
-use Rattle.sync_list.proofs.list.SyncList.listed.Reads as listed-reads
-use Rattle.sync_list.proofs.list.SyncList.place.Reads as place-reads
-use Rattle.sync_list.proofs.row.Row.blank.Reads as blank-reads
 use mathlib.Core.Path.{_≡_, _∙_}
 use lib.ListN.{length}
 use Rattle.numbers.proofs.Walk.{length-of-mapped}
@@ -25,12 +20,6 @@ in-rows c =
     let h : c .before .before .place .result < listedCount (s .args .self) = rw (c .before .listed .ensures) at (c .if1 .taken) in
     omega arith
 
-place-requires : tie.Need-place-requires
-place-requires c κs = search needs
-
-listed-requires : tie.Need-listed-requires
-listed-requires c κs = search needs
-
 mul-result : tie.Need-mul-result
 mul-result c = let h = in-rows c in omega arith
 
@@ -43,9 +32,6 @@ returns c =
     row-there (s .args .self) (long s) (s .args .id) (c .before .before .before .place .result) (c .before .before .before .place .ensures)
     (rw (c .before .before .listed .ensures) at (c .before .if1 .taken))
 
-blank-requires : tie.Need-blank-requires
-blank-requires c κs = search needs
-
 returns-2 : tie.Need-returns-2
 returns-2 c =
     let s = c .before .before .before .before .before in
@@ -57,10 +43,10 @@ pub row-of-spec : {M : Type 1} → statement M
 row-of-spec =
     tie.close
     (tie.spec
-    place-requires
-    listed-requires
+    (λ c κs. search needs)
+    (λ c κs. search needs)
     mul-result
     array-copy-out-result
     returns
-    blank-requires
+    (λ c κs. search needs)
     returns-2)

@@ -2,12 +2,6 @@
 use borrow.Author.Needs.{needs}
 use Rattle.sync_list.proofs.list.SyncList.with.Statement.{statement}
 use Rattle.sync_list.proofs.list.SyncList.with.Tie as tie
-use Rattle.sync_list.proofs.list.SyncList.with.Reads as reads
-use Rattle.sync_list.proofs.list.SyncList.with.Lts as lts
-use Rattle.sync_list.proofs.list.SyncList.listed.Reads as listed-reads
-use Rattle.sync_list.proofs.list.SyncList.place.Reads as place-reads
-use Rattle.sync_list.proofs.list.SyncList.row_of.Reads as row-of-reads
-use Rattle.sync_list.proofs.row.Row.with.Reads as with-reads
 use mathlib.Core.Path.{_≡_, sym, ap, _∙_}
 use mathlib.Core.Bool.{true}
 use Prim.Native.Nat.{_+_}
@@ -31,28 +25,10 @@ new-row c =
     let a = c .before .before .before .before .args in
     c .with .ensures ∙ ap (withMeasured (a .channel) (a .measurement)) (c .before .row-of .ensures)
 
-place-requires : tie.Need-place-requires
-place-requires c κs = search needs
-
 returns : tie.Need-returns
 returns c =
     let full : leb rowCount (c .before .place .result) ≡ true = le-leb _ _ (c .if1 .taken) in
     rw (sym (c .before .place .ensures), full)
-
-row-of-requires : tie.Need-row-of-requires
-row-of-requires c κs = search needs
-
-with-requires : tie.Need-with-requires
-with-requires c κs = search needs
-
-mul-row : tie.Need-mul-row
-mul-row c = search needs
-
-element-set-from-row : tie.Need-element-set-from-row
-element-set-from-row c = search needs
-
-listed-requires : tie.Need-listed-requires
-listed-requires c κs = search needs
 
 returns-2 : tie.Need-returns-2
 returns-2 c =
@@ -61,9 +37,6 @@ returns-2 c =
     let here = is-listed (s .args .self) (long s) (s .args .id) (p .result) (p .ensures) (rw (c .before .listed .ensures) at (c .if2 .taken)) in
     recorded-known (s .args .self) (long s) (s .args .id) (s .args .channel) (s .args .measurement) (p .result) (c .before .before .with .result)
     (p .ensures) (new-row (c .before .before)) (c .before .before .before .before .if1 .left) here
-
-add-next : tie.Need-add-next
-add-next c = search needs
 
 returns-3 : tie.Need-returns-3
 returns-3 c =
@@ -81,13 +54,13 @@ pub with-spec : {M : Type 1} → statement M
 with-spec =
     tie.close
     (tie.spec
-    place-requires
+    (λ c κs. search needs)
     returns
-    row-of-requires
-    with-requires
-    mul-row
-    element-set-from-row
-    listed-requires
+    (λ c κs. search needs)
+    (λ c κs. search needs)
+    (λ c. search needs)
+    (λ c. search needs)
+    (λ c κs. search needs)
     returns-2
-    add-next
+    (λ c. search needs)
     returns-3)
