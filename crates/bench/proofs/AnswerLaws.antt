@@ -3,7 +3,7 @@ use Prim.Native.Nat.{ℕ}
 use mathlib.Core.Path.{_≡_, sym, ap, _∙_}
 use mathlib.Core.List.{List}
 use lib.ListN.{length, take}
-use Rattle.frame.proofs.OverLaws.{take-over}
+use Rattle.lent_bytes.proofs.OverLaws.{take-over}
 use Rattle.bench_line.specs.Line.{longest, lineOf, LineSays}
 use Rattle.bench_claims.proofs.Line.{front-decides}
 use Rattle.bench_claims.proofs.Witnesses.{taken-whole}

@@ -8,7 +8,7 @@ use lib.Dec.{ltb}
 use lib.ListN.{length, take, drop, length-append}
 use borrow.Author.Tests.{le-ltb, lt-ltb}
 use Rattle.frame.specs.Read.{headerRead, rule}
-use Rattle.frame.specs.Write.{over}
+use Rattle.lent_bytes.specs.Over.{over}
 use Rattle.bench_line.specs.Line.{refusalOf, acceptedWord, refusedWord, behindSpace, lineFeed, lineBy, lineOf, front, longest, LineSays}
 use Rattle.bench_claims.proofs.Line.{front-decides, at-most-21}
 

@@ -9,7 +9,7 @@ use lib.Seq.{take-all}
 use borrow.Author.Tests.{lt-ltb, le-ltb}
 use Rattle.refusal.specs.Refusal.{first}
 use Rattle.frame.specs.Read.{refused, refusals, rule}
-use Rattle.frame.specs.Write.{over}
+use Rattle.lent_bytes.specs.Over.{over}
 use Rattle.bench_line.specs.Line.{readInput, lineOf, LineSays}
 
 -- ---- the input

@@ -4,10 +4,10 @@ use mathlib.Core.Path.{_≡_, sym, ap, _∙_}
 use mathlib.Core.List.{List, _++_, append-assoc}
 use native.Mathlib.Omega.{arith}
 use lib.ListN.{length, take, drop, length-append, length-drop}
-use lib.Seq.{length-take-le, take-at, take-all}
+use lib.Seq.{length-take-le, take-at}
 use borrow.Rule.Slice.PartMut.{putMid}
-use Rattle.frame.specs.Write.{over}
-use Rattle.frame.proofs.OverLaws.{lent-end}
+use Rattle.lent_bytes.specs.Over.{over}
+use Rattle.lent_bytes.proofs.OverLaws.{over-copied, lent-end}
 use Rattle.bench_line.specs.Putting.{Puts}
 
 -- the end of the buffer was lent, and came back with the text copied to its front
@@ -17,10 +17,9 @@ pub puts-copied : (text line part : List ℕ) (at size : ℕ) → at + length te
 unfolding over
 puts-copied text line part at size h e p =
     let tail : List ℕ = drop (length text) (drop at line) in
-    let all : take (length text) text ≡ text = take-all (length text) text (omega arith) in
     let front : length (take at line) ≡ at = length-take-le at line (omega arith) in
     let laid : putMid at (length line - at) line part ≡ (take at line ++ text) ++ tail =
-    lent-end at line text part (p ∙ ap (λ (x : List ℕ). x ++ drop (length text) (take (length line - at) (drop at line))) all)
+    lent-end at line text part (p ∙ over-copied text _)
     ∙ sym (append-assoc (take at line) text tail) in
     let start : length (take at line ++ text) ≡ at + size = length-append (take at line) text ∙ omega arith in (
       ap (λ (n : ℕ). at + n) e,

@@ -7,9 +7,9 @@ use lib.ListN.{length, drop}
 use lib.Dec.{ltb}
 use Rattle.refusal.specs.Refusal.{first, ifAccepted}
 use Rattle.header.specs.declared.Header.{Header}
-use Rattle.frame.specs.declared.reader.Reading.{Reading}
+use Rattle.frame.specs.declared.Reading.{Reading}
 use Rattle.frame.specs.Read.{Told, told, refusals, rule}
-use Rattle.frame.specs.Write.{over}
+use Rattle.lent_bytes.specs.Over.{over}
 use Rattle.bench_line.specs.Decimal.{decimal}
 
 -- ---- the input

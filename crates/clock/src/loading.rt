@@ -26,10 +26,10 @@ impl Loading {
     pub fn field(self) -> u8
         ensures { λ r. ⌜ r ≡ told self .field ⌝ }
     {
-        match self {
-            Loading::Loaded => 0,
-            Loading::SettingOutOfRange(field) => field,
-        }
+        let Loading::SettingOutOfRange(field) = self else {
+            return 0;
+        };
+        field
     }
 }
 

@@ -1,22 +1,33 @@
 -- The reader's answers, by their cases.
-use mathlib.Core.Path.{_≡_}
-use mathlib.Core.List.{[], _∷_}
+use mathlib.Core.Path.{_≡_, refl}
+use mathlib.Core.List.{List, [], _∷_}
+use Prim.Native.Nat.{ℕ}
 use native.Mathlib.Omega.{arith}
 use denote.Enum.Declared.{tagOf}
 use types.Run.{OneOf, miss}
-use Rattle.frame.specs.declared.reader.Reading.{Reading}
-use Rattle.frame.specs.declared.reader.Reading.the-variants as reading
+use Rattle.header.specs.Layout.{noHeader}
+use Rattle.frame.specs.declared.Reading.{Reading}
+use Rattle.frame.specs.declared.Reading.the-variants as reading
 use Rattle.frame.specs.Read.{told}
-use Rattle.frame.proofs.reader.Reading.{the-type}
+use Rattle.frame.proofs.Reading.{the-type}
 
--- any case but the first is a refusal
-pub not-accepted : (r : Reading) → OneOf (1 ∷ 2 ∷ 3 ∷ 4 ∷ 5 ∷ 6 ∷ 7 ∷ 8 ∷ []) (tagOf the-type r) → told r .number ≡ 0 → ⊥
-not-accepted (reading.Accepted h) k e = miss (1 ∷ 2 ∷ 3 ∷ 4 ∷ 5 ∷ 6 ∷ 7 ∷ 8 ∷ []) 0 tt k
-not-accepted reading.NotAChannel k e = omega arith
-not-accepted reading.TooShort k e = omega arith
-not-accepted reading.BadSize k e = omega arith
-not-accepted reading.HeaderChecksumDiffers k e = omega arith
-not-accepted reading.WordsNotSize k e = omega arith
-not-accepted reading.IdZero k e = omega arith
-not-accepted reading.StartupWithoutSync k e = omega arith
-not-accepted reading.FrameChecksumDiffers k e = omega arith
+-- any case but the first is a refusal, and has no header
+abbrev refusals : List ℕ
+refusals = 1 ∷ 2 ∷ 3 ∷ 4 ∷ 5 ∷ 6 ∷ 7 ∷ 8 ∷ []
+
+is-refusal : (r : Reading) → OneOf refusals (tagOf the-type r) → (told r .number ≡ 0 → ⊥) × (noHeader ≡ told r .header)
+is-refusal (reading.Accepted h) k = absurd (miss refusals 0 tt k)
+is-refusal reading.NotAChannel k = (λ e. omega arith, refl)
+is-refusal reading.TooShort k = (λ e. omega arith, refl)
+is-refusal reading.BadSize k = (λ e. omega arith, refl)
+is-refusal reading.HeaderChecksumDiffers k = (λ e. omega arith, refl)
+is-refusal reading.WordsNotSize k = (λ e. omega arith, refl)
+is-refusal reading.IdZero k = (λ e. omega arith, refl)
+is-refusal reading.StartupWithoutSync k = (λ e. omega arith, refl)
+is-refusal reading.FrameChecksumDiffers k = (λ e. omega arith, refl)
+
+pub not-accepted : (r : Reading) → OneOf refusals (tagOf the-type r) → told r .number ≡ 0 → ⊥
+not-accepted r k = is-refusal r k .0
+
+pub no-header : (r : Reading) → OneOf refusals (tagOf the-type r) → noHeader ≡ told r .header
+no-header r k = is-refusal r k .1

@@ -1,5 +1,3 @@
 pub mod NumberLaws
 pub mod ReadLaws
-pub mod OverLaws
-pub mod WriteLaws
 pub mod AnswerLaws

@@ -1,18 +1,15 @@
--- Numbers in bytes: one byte more, read and written.
-use Prim.Native.Nat.{ℕ, suc, _+_, _*_, _-_, _/_, _%_, _^_, _<_}
+-- Numbers in bytes: one byte more is read.
+use Prim.Native.Nat.{ℕ, suc, _+_, _*_, _-_, _^_, _<_}
 use mathlib.Core.Path.{_≡_, sym, ap, ap₂, _∙_}
-use mathlib.Core.Bool.{Bool}
-use mathlib.Core.List.{List, _∷_, _++_}
+use mathlib.Core.List.{List, _∷_}
 use native.Mathlib.Nat.{mod-eq-of-lt, pow-le-pow-right, lt-of-lt-of-le, add-mul, mul-assoc}
 use native.Mathlib.Omega.{arith}
 use lib.Pow.{pow-add}
 use lib.ListN.{length, getD, drop, length-drop, drop-of-length-le}
-use lib.Seq.{drop-cons, take-at, drop-at}
-use Rattle.division.specs.Bits.{bits, number, bytesBits, bytesOf}
-use Rattle.division.proofs.BitsLaws.{length-bits, number-bits}
-use Rattle.division.proofs.BytesLaws.{bits-split, number-append, length-bytes}
-
--- ---- read
+use lib.Seq.{drop-cons}
+use Rattle.division.specs.Bits.{bits, number, bytesBits}
+use Rattle.division.proofs.BitsLaws.{number-bits}
+use Rattle.division.proofs.BytesLaws.{number-append, length-bytes}
 
 number-bytes-cons : (byte : ℕ) (l : List ℕ) → byte < 256
     → number (bytesBits (byte ∷ l)) ≡ byte * 2 ^ (8 * length l) + number (bytesBits l)
@@ -54,16 +51,3 @@ unfolding number bytesBits
 end-number l i r e =
     let power : 8 * (length l - i) ≡ 0 = omega arith in
     ap₂ (λ (k : ℕ) (x : List ℕ). r * 2 ^ k + number (bytesBits x)) power (drop-of-length-le l {i = i} (omega arith)) ∙ omega arith
-
--- ---- written
-
--- the first of so many bytes, and the rest
-pub bytes-of-suc : (k n : ℕ) → bytesOf (suc k) (bits (8 * suc k) n) ≡ n / 2 ^ (8 * k) % 256 ∷ bytesOf k (bits (8 * k) n)
-unfolding bytesOf
-bytes-of-suc k n =
-    let first = bits 8 (n / 2 ^ (8 * k)) in
-    let rest = bits (8 * k) n in
-    let e : bits (8 * suc k) n ≡ first ++ rest = ap (λ (w : ℕ). bits w n) (omega arith) ∙ bits-split 8 (8 * k) n in
-    ap (bytesOf (suc k)) e
-    ∙ ap₂ (λ (x y : List Bool). number x ∷ bytesOf k y) (take-at first rest 8 (length-bits 8 _)) (drop-at first rest 8 (length-bits 8 _))
-    ∙ ap (λ (byte : ℕ). byte ∷ bytesOf k rest) (number-bits 8 (n / 2 ^ (8 * k)))

@@ -11,8 +11,8 @@ use Rattle.checksum.specs.Channel.{notAChannel, channelOf}
 use Rattle.header.specs.declared.Header.{Header}
 use Rattle.header.specs.Layout.{headerIn, noHeader}
 use Rattle.header.specs.Refusals.{startupWithoutSync}
-use Rattle.frame.specs.declared.reader.Reading.{Reading}
-use Rattle.frame.specs.declared.reader.Reading.the-variants.{Accepted, NotAChannel, TooShort, BadSize, HeaderChecksumDiffers, WordsNotSize, IdZero, StartupWithoutSync, FrameChecksumDiffers}
+use Rattle.frame.specs.declared.Reading.{Reading}
+use Rattle.frame.specs.declared.Reading.the-variants.{Accepted, NotAChannel, TooShort, BadSize, HeaderChecksumDiffers, WordsNotSize, IdZero, StartupWithoutSync, FrameChecksumDiffers}
 use Rattle.frame.specs.Refusals.{tooShort, badSize, headerChecksumDiffers, wordsNotSize, idZero, frameChecksumDiffers}
 
 -- ---- what is read

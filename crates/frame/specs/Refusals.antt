@@ -1,5 +1,5 @@
--- The conditions behind refusals 2 to 13, each alone (01, "Refusal numbers": "given exactly when"), but for 7, 9 and 11, which are in
--- the crate `header`. Refusal 1 is `notAChannel` of the crate `checksum`.
+-- The conditions behind the refusals of reading, each alone (01, "Refusal numbers": "given exactly when"), but for 7, which is in the
+-- crate `header`, and for 1, which is `notAChannel` of the crate `checksum`.
 use Prim.Native.Nat.{ℕ, _+_, _*_, _-_}
 use mathlib.Core.Bool.{Bool, not, _||_}
 use mathlib.Core.List.{List}
@@ -34,13 +34,3 @@ idZero header = eqb (header .id .0) 0
 -- 8: "frame checksum differs": the trailer is not the checksum of all that stands before it.
 abbrev pub frameChecksumDiffers : Channel → List ℕ → ℕ → Bool
 frameChecksumDiffers channel bytes trailer = not (eqb trailer (frameChecksum channel (take (length bytes - 3) bytes)))
-
--- 10: "payload to write is odd or above 254 bytes".
-abbrev pub badPayload : List ℕ → Bool
-badPayload payload = odd (length payload) || ltb 254 (length payload)
-
--- 12, "reserved bit to write is 1", is the bit itself.
-
--- 13: "output shorter than the frame", which has 8 bytes more than its payload.
-abbrev pub outputTooShort : List ℕ → List ℕ → Bool
-outputTooShort payload output = ltb (length output) (8 + length payload)

@@ -1,13 +1,140 @@
-// Frames read from bytes and written into them (document 01, "Frame layout").
+// Frames read from bytes (document 01, "Frame layout").
 //
-// Entries: `read` and `payload` on a channel number and bytes, `write` on a channel number, fields, payload and lent output.
-// For the crates above: `read_on` for a channel that is known to be one. What a header is stands in the crate `header`.
-mod reader;
-mod writer;
+// Entries: `read` and `payload` on a channel number and bytes. For the crates above: `read_on` for a channel that is known to be one.
+// What a header is stands in the crate `header`.
+ghost use mathlib.Core.Path.{_≡_};
+ghost use Prim.Native.Nat.{_≤_};
+ghost use lib.ListN.{length};
+ghost use denote.Ref.{ptr};
+ghost use Rattle.division.specs.Bits.{number as Bits·number, bytesBits};
+ghost use Rattle.frame.specs.Read.{told, ReadSays, ReadOnSays, PayloadSays, PayloadLies, PartSays, PartLies};
+use checksum::Channel;
+use checksum::Named;
+use header::Header;
 
-pub use reader::Reading;
-pub use reader::payload;
-pub use reader::read;
-pub use reader::read_on;
-pub use writer::Writing;
-pub use writer::write;
+// What reading answers: the header, or what is wrong with the bytes.
+pub enum Reading {
+    Accepted(Header),
+    NotAChannel,
+    TooShort,
+    BadSize,
+    HeaderChecksumDiffers,
+    WordsNotSize,
+    IdZero,
+    StartupWithoutSync,
+    FrameChecksumDiffers,
+}
+
+impl Reading {
+    // 01's number: 0, or that of the refusal.
+    pub fn number(self) -> u8
+        ensures { λ r. ⌜ r ≡ told self .number ⌝ }
+    {
+        match self {
+            Reading::Accepted(_) => 0,
+            Reading::NotAChannel => 1,
+            Reading::TooShort => 2,
+            Reading::BadSize => 3,
+            Reading::HeaderChecksumDiffers => 4,
+            Reading::WordsNotSize => 5,
+            Reading::IdZero => 6,
+            Reading::StartupWithoutSync => 7,
+            Reading::FrameChecksumDiffers => 8,
+        }
+    }
+
+    // The header, all zeros with a refusal.
+    pub fn header(self) -> Header
+        ensures { λ r. ⌜ r ≡ told self .header ⌝ }
+    {
+        let Reading::Accepted(read) = self else {
+            return Header::NONE;
+        };
+        read
+    }
+}
+
+// Reads a frame on a channel that is given by its number.
+pub fn read(channel: u8, bytes: &[u8]) -> Reading
+    ensures { λ r. ⌜ ReadSays channel (now (bytes .entry)) r ⌝ }
+{
+    let Named::Is(named) = Channel::named(channel) else {
+        return Reading::NotAChannel;
+    };
+    read_on(named, bytes)
+}
+
+// Reads a frame on a channel. The tests come in 01's order: which refusal is given is part of the answer.
+pub fn read_on(channel: Channel, bytes: &[u8]) -> Reading
+    ensures { λ r. ⌜ ReadOnSays channel (now (bytes .entry)) r ⌝ }
+{
+    if bytes.len() < 8 {
+        return Reading::TooShort;
+    }
+    if bytes.len() % 2 == 1 {
+        return Reading::BadSize;
+    }
+    if 262 < bytes.len() {
+        return Reading::BadSize;
+    }
+    let sent = number_of(&bytes[0..5]);
+    let header = header::unpacked(sent);
+    let id = header.id.0;
+    let size = 8 + 2 * header.words as usize;
+    if header.checksum != header::checksum_of(sent) {
+        return Reading::HeaderChecksumDiffers;
+    }
+    if size != bytes.len() {
+        return Reading::WordsNotSize;
+    }
+    if id == 0 {
+        return Reading::IdZero;
+    }
+    if header::startup_without_sync(header.startup, header.sync) {
+        return Reading::StartupWithoutSync;
+    }
+    let end = bytes.len() - 3;
+    let trailer = number_of(&bytes[end..]);
+    if trailer != checksum::frame_checksum_on(channel, &bytes[0..end]) as u64 {
+        return Reading::FrameChecksumDiffers;
+    }
+    Reading::Accepted(header)
+}
+
+// The number that at most eight bytes make, the most significant first.
+fn number_of(bytes: &[u8]) -> u64
+    requires { ⌜ length (now bytes) ≤ 8 ⌝ }
+    ensures { λ r. ⌜ r ≡ Bits·number (bytesBits (now (bytes .entry))) ⌝ }
+{
+    let mut r = 0;
+    let mut i = 0;
+    while i < bytes.len() {
+        r = r * 256 + bytes[i] as u64;
+        i += 1;
+    }
+    r
+}
+
+// The payload of a frame: the caller's own bytes from 5 up to size minus 3. An empty part where the frame is refused.
+pub fn payload(channel: u8, bytes: &[u8]) -> &[u8]
+    ensures { λ r. ⌜ PayloadSays channel (now (bytes .entry)) (now r) ⌝ }
+    ensures { λ r. ⌜ PayloadLies channel (now (bytes .entry)) (ptr (bytes .entry)) (ptr r) ⌝ }
+{
+    part(read(channel, bytes), bytes)
+}
+
+// The payload of bytes that have been read already, by what reading answered. It does not look whether the answer is that of these
+// bytes, and so is not for callers outside.
+fn part(reading: Reading, bytes: &[u8]) -> &[u8]
+    ensures { λ r. ⌜ PartSays reading (now (bytes .entry)) (now r) ⌝ }
+    ensures { λ r. ⌜ PartLies reading (now (bytes .entry)) (ptr (bytes .entry)) (ptr r) ⌝ }
+{
+    if reading.number() != 0 {
+        return &bytes[0..0];
+    }
+    if bytes.len() < 8 {
+        return &bytes[0..0];
+    }
+    let end = bytes.len() - 3;
+    &bytes[5..end]
+}

@@ -7,12 +7,13 @@ use Rattle.refusal.specs.Refusal.{ifAccepted, numbered, InOrder}
 use Rattle.refusal.proofs.FirstLaws.{first-in-order, if-refused}
 use Rattle.checksum.specs.Channel.{channelOf}
 use Rattle.header.specs.declared.Fields.{Fields}
-use Rattle.frame.specs.declared.reader.Reading.{Reading}
-use Rattle.frame.specs.declared.reader.Reading.the-variants as reading
-use Rattle.frame.specs.declared.writer.Writing.{Writing}
-use Rattle.frame.specs.declared.writer.Writing.the-variants as writing
+use Rattle.frame.specs.declared.Reading.{Reading}
+use Rattle.frame.specs.declared.Reading.the-variants as reading
+use Rattle.writing.specs.declared.Writing.{Writing}
+use Rattle.writing.specs.declared.Writing.the-variants as writing
 use Rattle.frame.specs.Read as read
-use Rattle.frame.specs.Write as write
+use Rattle.lent_bytes.specs.Over.{over}
+use Rattle.writing.specs.Write as write
 use Rattle.frame_claims.specs.Answers.{ReadOne, ReadOnOne, PayloadOne, WriteOne, ReadInOrder, WriteInOrder, RefusedUnchanged, RefusedEmpty}
 
 -- ---- one answer
@@ -99,7 +100,7 @@ write-in-order channel fields payload before after r h =
 pub refused-unchanged : RefusedUnchanged
 refused-unchanged channel fields payload before after r h refused =
     let number : write.told r .number ≡ write.refusal channel fields payload before = ap (λ (t : write.Told). t .number) (h .answers) in
-    h .writes ∙ if-refused _ (write.over (write.frameBytes (channelOf channel) fields payload) before) before (λ e. refused (number ∙ e))
+    h .writes ∙ if-refused _ (over (write.frameBytes (channelOf channel) fields payload) before) before (λ e. refused (number ∙ e))
 
 pub refused-empty : RefusedEmpty
 refused-empty channel bytes payload r h p refused =

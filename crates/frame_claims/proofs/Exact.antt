@@ -20,16 +20,17 @@ use Rattle.header.specs.declared.Header.{Header}
 use Rattle.header.specs.declared.Fields.{Fields}
 use Rattle.header.specs.Layout.{wholeHeader, noHeader}
 use Rattle.header.specs.Refusals.{notAnId, cycleTooHigh, startupWithoutSync}
-use Rattle.frame.specs.declared.reader.Reading.the-variants.{Accepted}
-use Rattle.frame.specs.declared.writer.Writing.the-variants.{Written, ReservedSet}
+use Rattle.frame.specs.declared.Reading.the-variants.{Accepted}
+use Rattle.writing.specs.declared.Writing.the-variants.{Written, ReservedSet}
 use Rattle.frame.specs.Layout.{frameChecksumOf, Frame}
-use Rattle.frame.specs.Refusals.{badPayload, outputTooShort}
+use Rattle.writing.specs.Refusals.{badPayload, outputTooShort}
 use Rattle.frame.specs.Read as read
 use Rattle.frame.specs.Read.{headerRead, payloadRead, refusalsOn, ReadSays, PayloadSays}
-use Rattle.frame.specs.Write as write
-use Rattle.frame.specs.Write.{headerOf, headerAndPayload, frameBytes, over, WriteSays}
-use Rattle.frame.proofs.OverLaws.{take-over, drop-over}
-use Rattle.frame.proofs.WriteLaws.{length-frame, or-first, or-second, write-refused, write-accepted}
+use Rattle.writing.specs.Write as write
+use Rattle.lent_bytes.specs.Over.{over}
+use Rattle.writing.specs.Write.{headerOf, headerAndPayload, frameBytes, WriteSays}
+use Rattle.lent_bytes.proofs.OverLaws.{take-over, drop-over}
+use Rattle.writing.proofs.WriteLaws.{length-frame, or-first, or-second, write-refused, write-accepted}
 use Rattle.frame_claims.specs.Exact.{FrameOn, fieldsOf, ReadExactly, WriteGivesFrame, WriteGivesOnly, ReadThenWrite, ReservedNotWritten, WriteThenRead}
 use Rattle.frame_claims.proofs.Answers.{read-one, write-one}
 use Rattle.frame_claims.proofs.FrameLaws.{length-whole, frame-size}

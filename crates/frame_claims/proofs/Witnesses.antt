@@ -16,17 +16,18 @@ use Rattle.checksum.specs.Channel.{channelOf}
 use Rattle.checksum.proofs.ChannelLaws.{named-is, one-channel}
 use Rattle.header.specs.declared.Header.{Header}
 use Rattle.header.specs.declared.Fields.{Fields}
-use Rattle.frame.specs.declared.reader.Reading.{Reading}
-use Rattle.frame.specs.declared.reader.Reading.the-variants.{Accepted}
-use Rattle.frame.specs.declared.writer.Writing.{Writing}
-use Rattle.frame.specs.declared.writer.Writing.the-variants.{Written}
+use Rattle.frame.specs.declared.Reading.{Reading}
+use Rattle.frame.specs.declared.Reading.the-variants.{Accepted}
+use Rattle.writing.specs.declared.Writing.{Writing}
+use Rattle.writing.specs.declared.Writing.the-variants.{Written}
 use Rattle.frame.specs.Layout.{Frame}
 use Rattle.frame.specs.Read as read
 use Rattle.frame.specs.Read.{headerRead, payloadRead, ReadSays, PayloadSays}
-use Rattle.frame.specs.Write as write
-use Rattle.frame.specs.Write.{headerOf, frameBytes, over, WriteSays}
-use Rattle.frame.proofs.OverLaws.{length-over}
-use Rattle.frame.proofs.WriteLaws.{length-frame}
+use Rattle.writing.specs.Write as write
+use Rattle.lent_bytes.specs.Over.{over}
+use Rattle.writing.specs.Write.{headerOf, frameBytes, WriteSays}
+use Rattle.lent_bytes.proofs.OverLaws.{length-over}
+use Rattle.writing.proofs.WriteLaws.{length-frame}
 use Rattle.frame_claims.specs.Damage.{BothAccepted}
 use Rattle.frame_claims.specs.Exact.{FrameOn, fieldsOf, AcceptsFrames, ReadingOf, PayloadOf, Wrote, Rewritten, Sent, Reread, RereadPayload}
 use Rattle.frame_claims.proofs.Answers.{read-one, write-one, written-answer, refused-unchanged}

@@ -6,13 +6,13 @@ use mathlib.Core.Path.{_≡_}
 use mathlib.Core.List.{List, []}
 use Rattle.refusal.specs.Refusal.{InOrder}
 use Rattle.header.specs.declared.Fields.{Fields}
-use Rattle.frame.specs.declared.reader.Reading.{Reading}
-use Rattle.frame.specs.declared.writer.Writing.{Writing}
+use Rattle.frame.specs.declared.Reading.{Reading}
+use Rattle.writing.specs.declared.Writing.{Writing}
 use Rattle.frame.specs.Read as read
 use Rattle.checksum.specs.declared.Channel.{Channel}
 use Rattle.frame.specs.Read.{ReadSays, ReadOnSays, PayloadSays, PayloadLies}
-use Rattle.frame.specs.Write as write
-use Rattle.frame.specs.Write.{WriteSays}
+use Rattle.writing.specs.Write as write
+use Rattle.writing.specs.Write.{WriteSays}
 
 -- ---- any two results that a statement allows are equal
 

@@ -12,13 +12,14 @@ use Rattle.checksum.specs.declared.Named.the-variants.{Is}
 use Rattle.checksum.specs.Channel.{namedBy}
 use Rattle.header.specs.declared.Header.{Header}
 use Rattle.header.specs.declared.Fields.{Fields}
-use Rattle.frame.specs.declared.reader.Reading.{Reading}
-use Rattle.frame.specs.declared.reader.Reading.the-variants.{Accepted}
-use Rattle.frame.specs.declared.writer.Writing.{Writing}
-use Rattle.frame.specs.declared.writer.Writing.the-variants.{Written, ReservedSet}
+use Rattle.frame.specs.declared.Reading.{Reading}
+use Rattle.frame.specs.declared.Reading.the-variants.{Accepted}
+use Rattle.writing.specs.declared.Writing.{Writing}
+use Rattle.writing.specs.declared.Writing.the-variants.{Written, ReservedSet}
 use Rattle.frame.specs.Layout.{Frame}
 use Rattle.frame.specs.Read.{ReadSays, PayloadSays}
-use Rattle.frame.specs.Write.{over, refusal, WriteSays}
+use Rattle.lent_bytes.specs.Over.{over}
+use Rattle.writing.specs.Write.{refusal, WriteSays}
 
 -- These bytes are a frame on the channel that this number names, with this header and this payload.
 pub record FrameOn (channel : ℕ) (bytes : List ℕ) (header : Header) (payload : List ℕ) : Type 0 where

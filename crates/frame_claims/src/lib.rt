@@ -4,7 +4,7 @@ ghost use mathlib.Core.Path.{_≡_};
 ghost use mathlib.Core.Bool.{false};
 ghost use Rattle.refusal.specs.Refusal.{InOrder};
 ghost use Rattle.frame.specs.Read.{refusals as read·refusals};
-ghost use Rattle.frame.specs.Write.{refusals as write·refusals};
+ghost use Rattle.writing.specs.Write.{refusals as write·refusals};
 ghost use Rattle.frame_claims.specs.Damage.{BothAccepted};
 ghost use Rattle.frame_claims.specs.Exact.{fieldsOf, AcceptsFrames, ReadingOf, PayloadOf, Wrote, Rewritten, Sent, Reread, RereadPayload};
 use frame::Reading;
@@ -23,7 +23,7 @@ pub fn write_number(channel: u8, fields: Fields, payload: &[u8], output: &mut [u
     ensures { λ r. ⌜ InOrder (write·refusals channel fields (now (payload .entry)) (now (output .entry))) r ⌝ }
     ensures { λ r. ⌜ ((r ≡ 0 → ⊥) → now (output .exit) ≡ now (output .entry)) ⌝ }
 {
-    frame::write(channel, fields, payload, output).number()
+    writing::write(channel, fields, payload, output).number()
 }
 
 // Whether reading accepts: exactly where the bytes are a frame.
@@ -88,7 +88,7 @@ fn fields_of(header: Header) -> Fields
 pub fn written(channel: u8, fields: Fields, payload: &[u8], output: &mut [u8]) -> usize
     ensures { λ r. ⌜ Wrote channel fields (now (payload .entry)) (now (output .entry)) (now (output .exit)) r ⌝ }
 {
-    frame::write(channel, fields, payload, output).length()
+    writing::write(channel, fields, payload, output).length()
 }
 
 // Reads bytes and writes what was read: the same bytes, unless the reserved bit is 1 or there is no room. Whether it was written.
@@ -100,14 +100,14 @@ pub fn rewritten(channel: u8, bytes: &[u8], output: &mut [u8]) -> bool
         return false;
     }
     let part = frame::payload(channel, bytes);
-    frame::write(channel, fields_of(reading.header()), part, output).number() == 0
+    writing::write(channel, fields_of(reading.header()), part, output).number() == 0
 }
 
 // Writes a frame and gives what was written.
 fn sent<'a>(channel: u8, fields: Fields, payload: &'a [u8], output: &'a mut [u8]) -> &'a [u8]
     ensures { λ r. ⌜ Sent channel fields (now (payload .entry)) (now (output .entry)) (now r) ⌝ }
 {
-    let size = frame::write(channel, fields, payload, output).length();
+    let size = writing::write(channel, fields, payload, output).length();
     let whole = &output[..];
     &whole[0..size]
 }

@@ -97,7 +97,7 @@ pub fn fields_of(flags: u8, id: u16, cycle: u8) -> Fields {
 
 // `write N LENGTH OUTPUT`
 fn answer_write(channel: u8, fields: Fields, payload: &[u8], output: &mut [u8]) -> bool {
-    let writing = frame::write(channel, fields, payload, output);
+    let writing = writing::write(channel, fields, payload, output);
     let numbers = [writing.number() as u64, writing.length() as u64];
     let mut line = [0u8; line::ROOM];
     let at = line::put(&mut line, 0, b"write");

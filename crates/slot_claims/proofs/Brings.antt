@@ -7,7 +7,7 @@ use mathlib.Core.Logic.{_⊎_, inl, inr, _↔_}
 use borrow.Author.Tests.{eqb-true, not-false}
 use Rattle.refusal.specs.Refusal.{first}
 use Rattle.header.specs.declared.Header.{Header}
-use Rattle.frame.specs.declared.reader.Reading.the-variants.{Accepted}
+use Rattle.frame.specs.declared.Reading.the-variants.{Accepted}
 use Rattle.frame.specs.Read as read
 use Rattle.frame.specs.Read.{headerRead, refusalsOn, ReadOnSays}
 use Rattle.slot.specs.declared.status.Reason.{Reason}

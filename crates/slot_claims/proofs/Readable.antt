@@ -15,10 +15,10 @@ use Rattle.header.specs.declared.Header.{Header}
 use Rattle.header.specs.Layout.{mostWords, headerChecksumOf}
 use Rattle.header.specs.Refusals.{startupWithoutSync, notAnId, cycleTooHigh}
 use Rattle.frame.specs.Layout.{Frame}
-use Rattle.frame.specs.Refusals.{badPayload}
+use Rattle.writing.specs.Refusals.{badPayload}
 use Rattle.frame.specs.Read as read
 use Rattle.frame.specs.Read.{headerRead, refusalsOn}
-use Rattle.frame.specs.Write.{headerOf, frameBytes}
+use Rattle.writing.specs.Write.{headerOf, frameBytes}
 use Rattle.frame_claims.specs.Exact.{fieldsOf}
 use Rattle.frame_claims.proofs.Reading.{none-of-seven-read, id-small, words-small, cycle-small, frame-header, frame-accepted}
 use Rattle.frame_claims.proofs.Exact.{written-frame}

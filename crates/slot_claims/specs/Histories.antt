@@ -9,7 +9,7 @@ use mathlib.Core.Logic.{_↔_}
 use Rattle.header.specs.declared.Slot.{Slot}
 use Rattle.header.specs.declared.Cycle.{Cycle}
 use Rattle.header.specs.declared.Header.{Header}
-use Rattle.frame.specs.declared.reader.Reading.the-variants.{Accepted}
+use Rattle.frame.specs.declared.Reading.the-variants.{Accepted}
 use Rattle.frame.specs.Read.{ReadOnSays}
 use Rattle.settings.specs.declared.Settings.{Settings}
 use Rattle.slot.specs.declared.status.Reason.{Reason}

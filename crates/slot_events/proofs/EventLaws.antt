@@ -9,8 +9,8 @@ use Rattle.refusal.proofs.FirstLaws.{first-skip, first-here, first-end, if-acce
 use Rattle.checksum.specs.declared.Channel.{Channel}
 use Rattle.header.specs.declared.Header.{Header}
 use Rattle.header.specs.Layout.{noHeader}
-use Rattle.frame.specs.declared.reader.Reading.{Reading}
-use Rattle.frame.specs.declared.reader.Reading.the-variants as reading
+use Rattle.frame.specs.declared.Reading.{Reading}
+use Rattle.frame.specs.declared.Reading.the-variants as reading
 use Rattle.frame.specs.Read.{headerRead, refusalsOn, ReadOnSays}
 use Rattle.frame.specs.Read as read
 use Rattle.slot.specs.declared.status.Reason.{Reason}

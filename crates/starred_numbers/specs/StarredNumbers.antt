@@ -9,7 +9,7 @@ use lib.ListN.{length}
 use Rattle.refusal.specs.Refusal.{first}
 use Rattle.header.specs.declared.Fields.{Fields}
 use Rattle.frame.specs.Read.{refusals}
-use Rattle.frame.specs.Write.{headerOf, headerAndPayload}
+use Rattle.writing.specs.Write.{headerOf, headerAndPayload}
 use Rattle.midpoint.specs.Midpoint.{midpoint}
 use Rattle.correction.specs.declared.term.Term.{Term}
 use Rattle.correction.specs.Deviation.{deviation}

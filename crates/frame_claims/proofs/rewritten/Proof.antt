@@ -6,7 +6,7 @@ use denote.Ref.{now}
 use Rattle.division.specs.Bits.{AreBytes}
 use Rattle.header.specs.declared.Fields.{Fields}
 use Rattle.frame.specs.Read.{told}
-use Rattle.frame.specs.Write.{WriteSays}
+use Rattle.writing.specs.Write.{WriteSays}
 use Rattle.frame_claims.specs.Exact.{fieldsOf, Rewritten}
 use Rattle.frame_claims.proofs.Witnesses.{not-rewritten, was-rewritten}
 use borrow.Author.Needs.{needs}

@@ -2,7 +2,7 @@
 use mathlib.Core.Path.{sym, _∙_, subst}
 use denote.Ref.{now}
 use Rattle.refusal.specs.Refusal.{InOrder}
-use Rattle.frame.specs.Write.{refusals}
+use Rattle.writing.specs.Write.{refusals}
 use Rattle.frame_claims.proofs.Answers.{write-in-order, refused-unchanged}
 use borrow.Author.Needs.{needs}
 use Rattle.frame_claims.proofs.write_number.Statement.{statement}

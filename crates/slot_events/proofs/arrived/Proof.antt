@@ -4,7 +4,7 @@ use mathlib.Core.Bool.{true, false}
 use borrow.Author.Tests.{not-true, not-false}
 use denote.Ref.{now}
 use Rattle.header.specs.declared.Header.{Header}
-use Rattle.frame.specs.declared.reader.Reading.the-variants.{Accepted}
+use Rattle.frame.specs.declared.Reading.the-variants.{Accepted}
 use Rattle.frame.specs.Read.{ReadOnSays}
 use Rattle.slot.specs.Judging.{placeOf}
 use Rattle.slot.specs.Sound.{sound}

@@ -2,57 +2,62 @@
 use borrow.Author.Needs.{needs}
 use Rattle.clock.proofs.opening.open_cycle.Statement.{statement}
 use Rattle.clock.proofs.opening.open_cycle.Tie as tie
+use Prim.Native.Nat.{ℕ, suc}
 use mathlib.Core.Path.{_≡_, refl, sym, ap, subst, _∙_}
-use mathlib.Core.Bool.{true, false, not}
-use borrow.Author.Tests.{not-true, not-false}
+use mathlib.Core.Bool.{not}
+use lib.ListN.{drop}
 use Rattle.refusal.specs.Refusal.{first}
-use Rattle.refusal.proofs.FirstLaws.{first-skip, first-here, first-end}
-use Rattle.header.specs.Refusals.{cycleTooHigh}
+use Rattle.refusal.proofs.FirstLaws.{Past, start, _then_, passed, first-at, first-none-left}
+use Rattle.clock.specs.declared.opening.CycleOpening.{CycleOpening}
 use Rattle.clock.specs.declared.opening.CycleOpening.the-variants.{Opened, NotSound, CycleTooHigh, OpenAlready}
-use Rattle.clock.specs.State.{isThere}
-use Rattle.clock.specs.Sound.{sound}
-use Rattle.clock.specs.Opening.{openingRefusals, OpenCycleSays}
+use Rattle.clock.specs.declared.opening.CycleOpened.{CycleOpened}
+use Rattle.clock.specs.Opening.{told, openingRefusals, OpenCycleSays}
 use Rattle.clock.proofs.StatementLaws.{open-says}
 
--- ---- what each test says
+-- ---- the lines of the order that were passed
 
-is-sound : (c : tie.Else1) → sound (c .before .before .args .clock) ≡ true
-is-sound c = sym (c .before .is-sound .ensures) ∙ not-false (c .before .is-sound .result) (c .if1 .left)
+abbrev Passed : ℕ → tie.Start → Type 0
+Passed k s = let l = openingRefusals (s .args .clock) (s .args .cycle) in Past l (drop k l)
 
-is-a-cycle : (c : tie.Else2) → cycleTooHigh (c .before .before .before .before .args .cycle .0) ≡ false
-is-a-cycle c = sym (c .before .is-too-high .ensures) ∙ c .if2 .left
+past23 : (c : tie.Else1) → Passed 1 (search needs)
+past23 c = passed (ap not (sym (c .before .is-sound .ensures)) ∙ c .if1 .left)
+
+past11 : (c : tie.Else2) → Passed 2 (search needs)
+past11 c = past23 (search needs) then sym (c .before .is-too-high .ensures) ∙ c .if2 .left
+
+past19 : (c : tie.Else3) → Passed 3 (search needs)
+past19 c = past11 (search needs) then sym (c .before .is-there .ensures) ∙ c .if3 .left
 
 -- ---- each return
 
+refuse : (s : tie.Start) (n : ℕ) (answer : CycleOpening) {r : CycleOpened} → told answer ≡ suc n
+    → first (openingRefusals (s .args .clock) (s .args .cycle)) ≡ suc n → r ≡ record { answer = answer; clock = s .args .clock }
+    → OpenCycleSays (s .args .clock) (s .args .cycle) r
+refuse s n answer t number is =
+    let a = s .args in
+    subst (OpenCycleSays (a .clock) (a .cycle)) (sym is) (open-says (a .clock) (a .cycle) (suc n) answer (a .clock) number t refl)
+
 returns : tie.Need-returns
 returns c =
-    let a = c .before .before .before .args in
-    let unsound : sound (a .clock) ≡ false = sym (c .before .before .is-sound .ensures) ∙ not-true (c .before .before .is-sound .result) (c .before .if1 .taken) in
-    let number : first (openingRefusals (a .clock) (a .cycle)) ≡ 23 = first-here 23 _ (ap not unsound) in
-    subst (OpenCycleSays (a .clock) (a .cycle)) (sym (c .refused .ensures)) (open-says (a .clock) (a .cycle) 23 NotSound (a .clock) number refl refl)
+    let t : tie.Then1 = search needs in
+    refuse (search needs) 22 NotSound refl (first-at start (ap not (sym (t .before .is-sound .ensures)) ∙ t .if1 .taken)) (c .refused .ensures)
 
 returns-2 : tie.Need-returns-2
 returns-2 c =
-    let a = c .before .before .before .before .before .args in
-    let high : cycleTooHigh (a .cycle .0) ≡ true = sym (c .before .before .is-too-high .ensures) ∙ c .before .if2 .taken in
-    let number : first (openingRefusals (a .clock) (a .cycle)) ≡ 11 = first-skip 23 _ (ap not (is-sound (c .before .before .before))) ∙ first-here 11 _ high in
-    subst (OpenCycleSays (a .clock) (a .cycle)) (sym (c .refused2 .ensures)) (open-says (a .clock) (a .cycle) 11 CycleTooHigh (a .clock) number refl refl)
+    let t : tie.Then2 = search needs in
+    refuse (search needs) 10 CycleTooHigh refl (first-at (past23 (search needs)) (sym (t .before .is-too-high .ensures) ∙ t .if2 .taken))
+    (c .refused2 .ensures)
 
 returns-3 : tie.Need-returns-3
 returns-3 c =
-    let a = c .before .before .before .before .before .before .before .args in
-    let already : isThere (a .clock .opened) ≡ true = sym (c .before .before .is-there .ensures) ∙ c .before .if3 .taken in
-    let number : first (openingRefusals (a .clock) (a .cycle)) ≡ 19 =
-    first-skip 23 _ (ap not (is-sound (c .before .before .before .before .before))) ∙ first-skip 11 _ (is-a-cycle (c .before .before .before)) ∙ first-here 19 _ already in
-    subst (OpenCycleSays (a .clock) (a .cycle)) (sym (c .refused3 .ensures)) (open-says (a .clock) (a .cycle) 19 OpenAlready (a .clock) number refl refl)
+    let t : tie.Then3 = search needs in
+    refuse (search needs) 18 OpenAlready refl (first-at (past11 (search needs)) (sym (t .before .is-there .ensures) ∙ t .if3 .taken))
+    (c .refused3 .ensures)
 
 returns-4 : tie.Need-returns-4
 returns-4 c =
-    let a = c .before .before .before .before .before .before .before .args in
-    let closed : isThere (a .clock .opened) ≡ false = sym (c .before .before .is-there .ensures) ∙ c .before .if3 .left in
-    let number : first (openingRefusals (a .clock) (a .cycle)) ≡ 0 =
-    first-skip 23 _ (ap not (is-sound (c .before .before .before .before .before))) ∙ first-skip 11 _ (is-a-cycle (c .before .before .before)) ∙ first-skip 19 _ closed ∙ first-end in
-    open-says (a .clock) (a .cycle) 0 Opened (c .opened-on .result) number refl (c .opened-on .ensures)
+    let s : tie.Start = search needs in
+    open-says (s .args .clock) (s .args .cycle) 0 Opened (c .opened-on .result) (first-none-left (past19 (search needs))) refl (c .opened-on .ensures)
 
 pub open-cycle-spec : {M : Type 1} → statement M
 open-cycle-spec =
