@@ -99,10 +99,10 @@ impl Checksum {
     pub fn value(self) -> u32
         ensures { λ r. ⌜ r ≡ told self .value ⌝ }
     {
-        match self {
-            Checksum::Value(v) => v,
-            Checksum::NotAChannel => 0,
-        }
+        let Checksum::Value(value) = self else {
+            return 0;
+        };
+        value
     }
 }
 

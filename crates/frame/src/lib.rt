@@ -79,6 +79,8 @@ pub fn read_on(channel: Channel, bytes: &[u8]) -> Reading
     }
     let sent = number_of(&bytes[0..5]);
     let header = header::unpacked(sent);
+    // Worked out before 4 is tried: a build that tries 6 before 5 then differs in the order alone, and it is the order that it is
+    // refused for.
     let id = header.id.0;
     let size = 8 + 2 * header.words as usize;
     if header.checksum != header::checksum_of(sent) {

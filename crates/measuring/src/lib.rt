@@ -87,6 +87,8 @@ pub fn measure(
     if no_sync_frame(status) {
         return refused(Measuring::NoSyncFrame, clock);
     }
+    // Both are worked out before either is told: a build that tries them the other way round then differs in the order alone, and it is
+    // the order that it is refused for.
     let is_other = other_cycle(clock, status);
     let is_measured = measured_already(clock, status);
     if is_other {

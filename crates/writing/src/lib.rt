@@ -73,6 +73,8 @@ pub fn write(channel: u8, fields: Fields, payload: &[u8], output: &mut [u8]) -> 
     if header::startup_without_sync(fields.startup, fields.sync) {
         return Writing::StartupWithoutSync;
     }
+    // Worked out before 12 is tried: a build that tries 13 before 12 then differs in the order alone, and it is the order that it is
+    // refused for.
     let size = payload.len() + 8;
     if fields.reserved {
         return Writing::ReservedSet;

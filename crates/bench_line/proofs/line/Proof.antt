@@ -14,25 +14,28 @@ use Rattle.bench_line.proofs.line.Tie as tie
 
 returns : tie.Need-returns
 returns c =
-    let put = c .before .before .«put-line» in
-    let read = c .before .before .before .«read-input» in
-    let a = c .before .before .before .before .before .before .before .args in
-    let line = lineBy (told (read .result)) in
-    let long : length line ≡ put .result = omega (arith, put .ensures .0 .0) in
-    (line-left-out (now (a .input)) (now (a .output)) line (ap lineBy (read .ensures)) (rw long (c .if1 .taken)), omega arith)
+    let put : tie.After-put-line = search needs in
+    let read : tie.After-read-input = search needs in
+    let s : tie.Start = search needs in
+    let a = s .args in
+    let line = lineBy (told (read .read-input .result)) in
+    let long : length line ≡ put .put-line .result = omega (arith, put .put-line .ensures .0 .0) in
+    (line-left-out (now (a .input)) (now (a .output)) line (ap lineBy (read .read-input .ensures)) (rw long (c .if1 .taken)), omega arith)
 
 returns-2 : tie.Need-returns-2
 returns-2 c =
-    let copy = c .before .before .copy in
-    let put = c .before .before .before .before .before .before .before .before .«put-line» in
-    let read = c .before .before .before .before .before .before .before .before .before .«read-input» in
-    let a = c .before .before .before .before .before .before .before .before .before .before .before .before .before .args in
-    let line = take (put .result - 0) (put .last .0) in
-    let whole : line ≡ lineBy (told (read .result)) = ap (λ (k : ℕ). take k (put .last .0)) (sub-zero (put .result)) ∙ put .ensures .0 .2 in
-    let right : line ≡ lineOf (now (a .input)) = whole ∙ ap lineBy (read .ensures) in
-    let long : length line ≡ put .result = ap length whole ∙ omega (arith, put .ensures .0 .0) in
-    let room : length line ≤ length (now (a .output)) = rw long (c .before .before .before .before .before .before .if1 .left) in
-    (line-laid (now (a .input)) (now (a .output)) line right (copy .result) (copy .last .1 .0) room (copy .ensures .0) (copy .ensures .1), rw (copy .ensures .0) room)
+    let copy : tie.After-copy = search needs in
+    let put : tie.After-put-line = search needs in
+    let read : tie.After-read-input = search needs in
+    let s : tie.Start = search needs in
+    let a = s .args in
+    let line = take (put .put-line .result - 0) (put .put-line .last .0) in
+    let whole : line ≡ lineBy (told (read .read-input .result)) = ap (λ (k : ℕ). take k (put .put-line .last .0)) (sub-zero (put .put-line .result)) ∙ put .put-line .ensures .0 .2 in
+    let right : line ≡ lineOf (now (a .input)) = whole ∙ ap lineBy (read .read-input .ensures) in
+    let long : length line ≡ put .put-line .result = ap length whole ∙ omega (arith, put .put-line .ensures .0 .0) in
+    let fits : tie.Else1 = search needs in
+    let room : length line ≤ length (now (a .output)) = rw long (fits .if1 .left) in
+    (line-laid (now (a .input)) (now (a .output)) line right (copy .copy .result) (copy .copy .last .1 .0) room (copy .copy .ensures .0) (copy .copy .ensures .1), rw (copy .copy .ensures .0) room)
 
 pub line-spec : {M : Type 1} → statement M
 line-spec =

@@ -10,23 +10,24 @@ use Rattle.bench_line.proofs.put_accepted.Tie as tie
 
 returns : tie.Need-returns
 returns c =
-    let feed = c .before .before .put2 in
-    let words = c .before .before .before .before .before .before .before .«put-decimal3» in
-    let cycle = c .before .before .before .before .before .before .before .before .before .before .before .before .«put-decimal2» in
-    let id = c .before .before .before .before .before .before .before .before .before .before .before .before .before .before .before .before .before .«put-decimal» in
-    let word = c .before .before .before .before .before .before .before .before .before .before .before .before .before .before .before .before .before .before .before .before .before .before .put in
-    let a = c .before .before .before .before .before .before .before .before .before .before .before .before .before .before .before .before .before .before .before .before .before .before .before .before .before .before .args in
+    let feed : tie.After-put2 = search needs in
+    let words : tie.After-put-decimal3 = search needs in
+    let cycle : tie.After-put-decimal2 = search needs in
+    let id : tie.After-put-decimal = search needs in
+    let word : tie.After-put = search needs in
+    let s : tie.Start = search needs in
+    let a = s .args in
     let h = a .header in
     let line = now (a .line) in
-    let first = puts-then acceptedWord (behindSpace (h .id .0)) line (word .last .0) (id .last .0)
-    0 (word .result) (id .result) (word .ensures) (id .ensures .0) in
-    let second = puts-then (acceptedWord ++ behindSpace (h .id .0)) (behindSpace (h .cycle .0)) line (id .last .0) (cycle .last .0)
-    0 (id .result) (cycle .result) first (cycle .ensures .0) in
-    let third = puts-then (acceptedWord ++ behindSpace (h .id .0) ++ behindSpace (h .cycle .0)) (behindSpace (h .words)) line (cycle .last .0) (words .last .0)
-    0 (cycle .result) (words .result) second (words .ensures .0) in
-    let whole = puts-then (acceptedWord ++ behindSpace (h .id .0) ++ behindSpace (h .cycle .0) ++ behindSpace (h .words)) lineFeed line (words .last .0) (feed .last .0)
-    0 (words .result) (feed .result) third (feed .ensures) in
-    (whole, omega (arith, word .ensures .0, id .ensures .1, cycle .ensures .1, words .ensures .1, feed .ensures .0))
+    let first = puts-then acceptedWord (behindSpace (h .id .0)) line (word .put .last .0) (id .put-decimal .last .0)
+    0 (word .put .result) (id .put-decimal .result) (word .put .ensures) (id .put-decimal .ensures .0) in
+    let second = puts-then (acceptedWord ++ behindSpace (h .id .0)) (behindSpace (h .cycle .0)) line (id .put-decimal .last .0) (cycle .put-decimal2 .last .0)
+    0 (id .put-decimal .result) (cycle .put-decimal2 .result) first (cycle .put-decimal2 .ensures .0) in
+    let third = puts-then (acceptedWord ++ behindSpace (h .id .0) ++ behindSpace (h .cycle .0)) (behindSpace (h .words)) line (cycle .put-decimal2 .last .0) (words .put-decimal3 .last .0)
+    0 (cycle .put-decimal2 .result) (words .put-decimal3 .result) second (words .put-decimal3 .ensures .0) in
+    let whole = puts-then (acceptedWord ++ behindSpace (h .id .0) ++ behindSpace (h .cycle .0) ++ behindSpace (h .words)) lineFeed line (words .put-decimal3 .last .0) (feed .put2 .last .0)
+    0 (words .put-decimal3 .result) (feed .put2 .result) third (feed .put2 .ensures) in
+    (whole, omega (arith, word .put .ensures .0, id .put-decimal .ensures .1, cycle .put-decimal2 .ensures .1, words .put-decimal3 .ensures .1, feed .put2 .ensures .0))
 
 pub put-accepted-spec : {M : Type 1} → statement M
 put-accepted-spec =

@@ -13,26 +13,30 @@ use Rattle.bench_line.proofs.put_line.Tie as tie
 
 returns : tie.Need-returns
 returns c =
-    let put = c .before .before .«put-refused» in
-    let number = c .before .before .before .before .before .number in
-    let a = c .before .before .before .before .before .before .before .args in
+    let put : tie.After-put-refused = search needs in
+    let test : tie.Then1 = search needs in
+    let number : tie.After-number = search needs in
+    let s : tie.Start = search needs in
+    let a = s .args in
     let t = told (a .reading) in
-    let refused : t .number ≡ 0 → ⊥ = λ e. c .before .before .before .before .if1 .taken (number .ensures ∙ e) in
-    let right : refusedLine (number .result) ≡ lineBy t =
-    ap refusedLine (number .ensures) ∙ sym (if-refused (t .number) (acceptedLine (t .header)) (refusedLine (t .number)) refused) in
-    (subst (λ (text : List ℕ). Puts text 0 (put .result) (now (a .line)) (put .last .0)) right (put .ensures .0), put .ensures .1)
+    let refused : t .number ≡ 0 → ⊥ = λ e. test .if1 .taken (number .number .ensures ∙ e) in
+    let right : refusedLine (number .number .result) ≡ lineBy t =
+    ap refusedLine (number .number .ensures) ∙ sym (if-refused (t .number) (acceptedLine (t .header)) (refusedLine (t .number)) refused) in
+    (subst (λ (text : List ℕ). Puts text 0 (put .put-refused .result) (now (a .line)) (put .put-refused .last .0)) right (put .put-refused .ensures .0), put .put-refused .ensures .1)
 
 returns-2 : tie.Need-returns-2
 returns-2 c =
-    let put = c .before .before .«put-accepted» in
-    let header = c .before .before .before .header in
-    let number = c .before .before .before .before .before .before .number in
-    let a = c .before .before .before .before .before .before .before .before .args in
+    let put : tie.After-put-accepted = search needs in
+    let header : tie.After-header = search needs in
+    let test : tie.Else1 = search needs in
+    let number : tie.After-number = search needs in
+    let s : tie.Start = search needs in
+    let a = s .args in
     let t = told (a .reading) in
-    let accepted : t .number ≡ 0 = sym (number .ensures) ∙ c .before .before .before .before .before .if1 .left in
-    let right : acceptedLine (header .result) ≡ lineBy t =
-    ap acceptedLine (header .ensures) ∙ sym (if-accepted (t .number) (acceptedLine (t .header)) (refusedLine (t .number)) accepted) in
-    (subst (λ (text : List ℕ). Puts text 0 (put .result) (now (a .line)) (put .last .0)) right (put .ensures .0), put .ensures .1)
+    let accepted : t .number ≡ 0 = sym (number .number .ensures) ∙ test .if1 .left in
+    let right : acceptedLine (header .header .result) ≡ lineBy t =
+    ap acceptedLine (header .header .ensures) ∙ sym (if-accepted (t .number) (acceptedLine (t .header)) (refusedLine (t .number)) accepted) in
+    (subst (λ (text : List ℕ). Puts text 0 (put .put-accepted .result) (now (a .line)) (put .put-accepted .last .0)) right (put .put-accepted .ensures .0), put .put-accepted .ensures .1)
 
 pub put-line-spec : {M : Type 1} → statement M
 put-line-spec =

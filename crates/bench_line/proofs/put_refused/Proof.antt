@@ -10,16 +10,17 @@ use Rattle.bench_line.proofs.put_refused.Tie as tie
 
 returns : tie.Need-returns
 returns c =
-    let feed = c .before .before .put2 in
-    let number = c .before .before .before .before .before .before .before .«put-decimal» in
-    let word = c .before .before .before .before .before .before .before .before .before .before .before .put in
-    let a = c .before .before .before .before .before .before .before .before .before .before .before .before .before .before .before .args in
+    let feed : tie.After-put2 = search needs in
+    let number : tie.After-put-decimal = search needs in
+    let word : tie.After-put = search needs in
+    let s : tie.Start = search needs in
+    let a = s .args in
     let line = now (a .line) in
-    let first = puts-then refusedWord (behindSpace (a .number)) line (word .last .0) (number .last .0)
-    0 (word .result) (number .result) (word .ensures) (number .ensures .0) in
-    let whole = puts-then (refusedWord ++ behindSpace (a .number)) lineFeed line (number .last .0) (feed .last .0)
-    0 (number .result) (feed .result) first (feed .ensures) in
-    (whole, omega (arith, word .ensures .0, number .ensures .1, feed .ensures .0))
+    let first = puts-then refusedWord (behindSpace (a .number)) line (word .put .last .0) (number .put-decimal .last .0)
+    0 (word .put .result) (number .put-decimal .result) (word .put .ensures) (number .put-decimal .ensures .0) in
+    let whole = puts-then (refusedWord ++ behindSpace (a .number)) lineFeed line (number .put-decimal .last .0) (feed .put2 .last .0)
+    0 (number .put-decimal .result) (feed .put2 .result) first (feed .put2 .ensures) in
+    (whole, omega (arith, word .put .ensures .0, number .put-decimal .ensures .1, feed .put2 .ensures .0))
 
 pub put-refused-spec : {M : Type 1} → statement M
 put-refused-spec =

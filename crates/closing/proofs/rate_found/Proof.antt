@@ -12,7 +12,7 @@ use Rattle.correction.specs.Terms.{rateTermBy}
 use Rattle.sync_list.specs.Lists.{listed}
 use Rattle.sync_list.specs.Values.{rateValuesBy}
 
-odd-is : (c : tie.After-is-odd) → isOdd (currentCycle (c .before .before .before .before .before .before .args .clock)) ≡ c .is-odd .result
+odd-is : (c : tie.After-is-odd) → let s : tie.Start = search needs in isOdd (currentCycle (s .args .clock)) ≡ c .is-odd .result
 odd-is c = sym (c .is-odd .ensures ∙ ap isOdd (c .before .current-cycle .ensures))
 
 returns : tie.Need-returns
@@ -20,7 +20,7 @@ returns c = rw (odd-is (c .before) ∙ not-true (c .before .is-odd .result) (c .
 
 returns-2 : tie.Need-returns-2
 returns-2 c =
-    let s = c .before .before .before .before .before .before .before .before .before .before .before in
+    let s : tie.Start = search needs in
     let e = c .before .before .before .before in
     let values = c .before .before .before .rate-values in
     let term : c .rate-term .result

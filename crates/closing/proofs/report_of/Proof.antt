@@ -12,7 +12,7 @@ use Rattle.closing.proofs.RangeLaws.{offset-reported, rate-reported}
 
 returns : tie.Need-returns
 returns c =
-    let s = c .before .before .before .before .before .before .before .before .before .before in
+    let s : tie.Start = search needs in
     let k = s .args .clock in
     let offset = c .before .before .before .before .before .before .offset-found .ensures in
     let rate = s .pre .1 in

@@ -8,7 +8,8 @@ use Rattle.correction.specs.Deviation.{deviation}
 
 returns : tie.Need-returns
 returns c =
-    let a = c .before .before .before .before .args in
+    let s : tie.Start = search needs in
+    let a = s .args in
     let told : c .deviation .result .0 ≡ held (deviation (a .observed .0) (c .before .decoding-correction .result) (c .before .before .delay-on .result) (a .action-point .0)) =
     c .deviation .ensures in
     rw (c .before .decoding-correction .ensures, c .before .before .delay-on .ensures) at told

@@ -9,10 +9,10 @@ use Rattle.slot.specs.Judging.{isFrame}
 use Rattle.measuring.specs.Measuring.{frameOf}
 use Rattle.header.specs.declared.Header.{Header}
 
-has-frame : (c : tie.Else1) → isFrame (c .before .before .args .status .kept) ≡ true
+has-frame : (c : tie.Else1) → let s : tie.Start = search needs in isFrame (s .args .status .kept) ≡ true
 has-frame c = sym (c .before .is-frame .ensures) ∙ not-false (c .before .is-frame .result) (c .if1 .left)
 
-sync-is : (c : tie.After-frame-of) → frameOf (c .before .before .before .args .status) .sync ≡ c .frame-of .result .sync
+sync-is : (c : tie.After-frame-of) → let s : tie.Start = search needs in frameOf (s .args .status) .sync ≡ c .frame-of .result .sync
 sync-is c = sym (ap (λ (h : Header). h .sync) (c .frame-of .ensures))
 
 returns-2 : tie.Need-returns-2

@@ -9,7 +9,7 @@ use native.Mathlib.Omega.{arith}
 use Prim.Native.Nat.{_%_}
 use Rattle.clock.specs.State.{isOdd}
 
-is-odd-cycle : (c : tie.Else1) → isOdd (c .before .before .args .cycle) ≡ true
+is-odd-cycle : (c : tie.Else1) → let s : tie.Start = search needs in isOdd (s .args .cycle) ≡ true
 is-odd-cycle c = sym (c .before .is-odd .ensures) ∙ not-false (c .before .is-odd .result) (c .if1 .left)
 
 returns : tie.Need-returns
@@ -17,7 +17,8 @@ returns c = rw (sym (c .before .is-odd .ensures) ∙ not-true (c .before .is-odd
 
 sub-t7 : tie.Need-sub-t7
 sub-t7 c =
-    let n = c .before .before .before .args .cycle .0 in
+    let s : tie.Start = search needs in
+    let n = s .args .cycle .0 in
     let odd : n % 2 ≡ 1 = eqb-true (n % 2) 1 (is-odd-cycle (c .before)) in
     omega arith
 

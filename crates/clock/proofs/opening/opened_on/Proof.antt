@@ -6,7 +6,8 @@ use Rattle.clock.specs.declared.state.CycleOrNone.the-variants.{Is}
 
 returns : tie.Need-returns
 returns c =
-    let a = c .before .before .before .before .args in
+    let s : tie.Start = search needs in
+    let a = s .args in
     λ i. record {
       settings = a .clock .settings;
       even = c .before .even-after .ensures i;

@@ -26,7 +26,7 @@ cast-stored c = wide-asked (rate-fits (c .before .before))
 
 returns : tie.Need-returns
 returns c =
-    let s = c .before .before .before in
+    let s : tie.Start = search needs in
     let over : ltZ (pos (s .args .limit)) (s .args .rate .0) ≡ true =
     rw (wide-unsigned _ (limit-small s), wide-signed (rate-fits s)) at (c .if1 .taken) in
     rw over
@@ -36,7 +36,7 @@ sub-result c = rw (wide-unsigned _ (limit-small (c .before .before .before))) (w
 
 returns-2 : tie.Need-returns-2
 returns-2 c =
-    let s = c .before .before .before in
+    let s : tie.Start = search needs in
     let x = s .args .rate .0 in
     let low = negℤ (pos (s .args .limit)) in
     let not-over : ltZ (pos (s .args .limit)) x ≡ false =

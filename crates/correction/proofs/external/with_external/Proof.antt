@@ -25,10 +25,11 @@ external-fits c = search needs
 sum-fits : (c : tie.After-external-term)
     → SFits w64 (c .before .before .before .args .term .0 +ℤ externalTerm (signOf (c .before .before .before .args .control)) (c .before .before .before .args .unit))
 sum-fits c =
-    let a = c .before .before .before .args in
+    let s : tie.Start = search needs in
+    let a = s .args in
     let h = external-small (a .control) (a .unit) in
-    let u = unit-small (c .before .before .before) in
-    let f = term-fits (c .before .before .before) in
+    let u = unit-small s in
+    let f = term-fits s in
     omega (signed, add-sum (a .term .0) (externalTerm (signOf (a .control)) (a .unit)))
 
 cast-wide : tie.Need-cast-wide

@@ -21,30 +21,32 @@ d-small : (c : tie.Start) → c .args .d < 2 ^ 32
 d-small c = omega arith
 
 -- what each test showed
-over : (c : tie.Then1) → ltZ (pos (c .before .before .before .args .d)) (c .before .before .before .args .x .0) ≡ true
-over c = let s = c .before .before .before in wide-above (x-fits s) (s .args .d) (d-small s) (c .if1 .taken)
+over : (c : tie.Then1) → let s : tie.Start = search needs in ltZ (pos (s .args .d)) (s .args .x .0) ≡ true
+over c = let s : tie.Start = search needs in wide-above (x-fits s) (s .args .d) (d-small s) (c .if1 .taken)
 
-not-over : (c : tie.Else1) → ltZ (pos (c .before .before .before .args .d)) (c .before .before .before .args .x .0) ≡ false
-not-over c = let s = c .before .before .before in wide-above (x-fits s) (s .args .d) (d-small s) (c .if1 .left)
+not-over : (c : tie.Else1) → let s : tie.Start = search needs in ltZ (pos (s .args .d)) (s .args .x .0) ≡ false
+not-over c = let s : tie.Start = search needs in wide-above (x-fits s) (s .args .d) (d-small s) (c .if1 .left)
 
-under : (c : tie.Then2) → ltZ (c .before .before .before .before .args .x .0) (negℤ (pos (c .before .before .before .before .args .d))) ≡ true
-under c = let s = c .before .before .before .before in wide-below (x-fits s) (s .args .d) (d-small s) (c .if2 .taken)
+under : (c : tie.Then2) → let s : tie.Start = search needs in ltZ (s .args .x .0) (negℤ (pos (s .args .d))) ≡ true
+under c = let s : tie.Start = search needs in wide-below (x-fits s) (s .args .d) (d-small s) (c .if2 .taken)
 
-not-under : (c : tie.Else2) → ltZ (c .before .before .before .before .args .x .0) (negℤ (pos (c .before .before .before .before .args .d))) ≡ false
-not-under c = let s = c .before .before .before .before in wide-below (x-fits s) (s .args .d) (d-small s) (c .if2 .left)
+not-under : (c : tie.Else2) → let s : tie.Start = search needs in ltZ (s .args .x .0) (negℤ (pos (s .args .d))) ≡ false
+not-under c = let s : tie.Start = search needs in wide-below (x-fits s) (s .args .d) (d-small s) (c .if2 .left)
 
 -- a number that is brought toward zero fits where it fitted
-less-fits : (c : tie.Then1) → SFits w32 (c .before .before .before .args .x .0 -ℤ pos (c .before .before .before .args .d))
+less-fits : (c : tie.Then1) → let s : tie.Start = search needs in SFits w32 (s .args .x .0 -ℤ pos (s .args .d))
 less-fits c =
-    let a = c .before .before .before .args in
-    let f = x-fits (c .before .before .before) in
+    let s : tie.Start = search needs in
+    let a = s .args in
+    let f = x-fits s in
     let t = over c in
     omega (signed, sub-sums (a .x .0) (pos (a .d)))
 
-more-fits : (c : tie.Then2) → SFits w32 (c .before .before .before .before .args .x .0 +ℤ pos (c .before .before .before .before .args .d))
+more-fits : (c : tie.Then2) → let s : tie.Start = search needs in SFits w32 (s .args .x .0 +ℤ pos (s .args .d))
 more-fits c =
-    let a = c .before .before .before .before .args in
-    let f = x-fits (c .before .before .before .before) in
+    let s : tie.Start = search needs in
+    let a = s .args in
+    let f = x-fits s in
     let t = under c in
     omega (signed, add-sum (a .x .0) (pos (a .d)), up-neg (pos (a .d)), dn-neg (pos (a .d)))
 

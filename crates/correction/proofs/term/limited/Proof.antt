@@ -21,30 +21,31 @@ limit-small : (c : tie.Start) → c .args .limit < 2 ^ 32
 limit-small c = omega arith
 
 -- what each test showed
-over : (c : tie.Then1) → ltZ (pos (c .before .before .before .args .limit)) (c .before .before .before .args .x .0) ≡ true
-over c = let s = c .before .before .before in wide-above (x-fits s) (s .args .limit) (limit-small s) (c .if1 .taken)
+over : (c : tie.Then1) → let s : tie.Start = search needs in ltZ (pos (s .args .limit)) (s .args .x .0) ≡ true
+over c = let s : tie.Start = search needs in wide-above (x-fits s) (s .args .limit) (limit-small s) (c .if1 .taken)
 
-not-over : (c : tie.Else1) → ltZ (pos (c .before .before .before .args .limit)) (c .before .before .before .args .x .0) ≡ false
-not-over c = let s = c .before .before .before in wide-above (x-fits s) (s .args .limit) (limit-small s) (c .if1 .left)
+not-over : (c : tie.Else1) → let s : tie.Start = search needs in ltZ (pos (s .args .limit)) (s .args .x .0) ≡ false
+not-over c = let s : tie.Start = search needs in wide-above (x-fits s) (s .args .limit) (limit-small s) (c .if1 .left)
 
-under : (c : tie.Then2) → ltZ (c .before .before .before .before .args .x .0) (negℤ (pos (c .before .before .before .before .args .limit))) ≡ true
-under c = let s = c .before .before .before .before in wide-below (x-fits s) (s .args .limit) (limit-small s) (c .if2 .taken)
+under : (c : tie.Then2) → let s : tie.Start = search needs in ltZ (s .args .x .0) (negℤ (pos (s .args .limit))) ≡ true
+under c = let s : tie.Start = search needs in wide-below (x-fits s) (s .args .limit) (limit-small s) (c .if2 .taken)
 
-not-under : (c : tie.Else2) → ltZ (c .before .before .before .before .args .x .0) (negℤ (pos (c .before .before .before .before .args .limit))) ≡ false
-not-under c = let s = c .before .before .before .before in wide-below (x-fits s) (s .args .limit) (limit-small s) (c .if2 .left)
+not-under : (c : tie.Else2) → let s : tie.Start = search needs in ltZ (s .args .x .0) (negℤ (pos (s .args .limit))) ≡ false
+not-under c = let s : tie.Start = search needs in wide-below (x-fits s) (s .args .limit) (limit-small s) (c .if2 .left)
 
 -- a limit that a number lies outside of fits where the number fits
-highest-fits : (c : tie.Then1) → SFits w32 (pos (c .before .before .before .args .limit))
+highest-fits : (c : tie.Then1) → let s : tie.Start = search needs in SFits w32 (pos (s .args .limit))
 highest-fits c =
     let f = x-fits (c .before .before .before) in
     let t = over c in
     omega signed
 
-lowest-fits : (c : tie.Then2) → SFits w32 (negℤ (pos (c .before .before .before .before .args .limit)))
+lowest-fits : (c : tie.Then2) → let s : tie.Start = search needs in SFits w32 (negℤ (pos (s .args .limit)))
 lowest-fits c =
-    let f = x-fits (c .before .before .before .before) in
+    let s : tie.Start = search needs in
+    let f = x-fits s in
     let t = under c in
-    let l = pos (c .before .before .before .before .args .limit) in
+    let l = pos (s .args .limit) in
     omega (signed, up-neg l, dn-neg l)
 
 cast-term : tie.Need-cast-term

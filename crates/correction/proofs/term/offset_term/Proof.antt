@@ -10,21 +10,23 @@ use Rattle.midpoint.specs.Midpoint.{midpoint}
 use Rattle.correction.specs.Terms.{isNone, valuesIn, withOwn, missing, limited, offsetTerm}
 use Rattle.correction.proofs.TermLaws.{some-counted, where-none, where-some}
 
-has-some : (c : tie.Else1) → isNone (valuesIn (c .before .before .args .values)) ≡ false
+has-some : (c : tie.Else1) → let s : tie.Start = search needs in isNone (valuesIn (s .args .values)) ≡ false
 has-some c = sym (c .before .has-none .ensures) ∙ c .if1 .left
 
 returns : tie.Need-returns
 returns c =
-    let a = c .before .before .args in
+    let s : tie.Start = search needs in
+    let a = s .args in
     let none : isNone (valuesIn (a .values)) ≡ true = sym (c .before .has-none .ensures) ∙ c .if1 .taken in
     where-none (λ (l : List ℤ). missing (pos 0) ≡ offsetTerm l (a .sends-sync) (a .limit)) (valuesIn (a .values)) none refl
 
 middle-requires : tie.Need-middle-requires
-middle-requires c κs = some-counted (c .before .before .args .values) (has-some c)
+middle-requires c κs = let s : tie.Start = search needs in some-counted (s .args .values) (has-some c)
 
 returns-2 : tie.Need-returns-2
 returns-2 c =
-    let a = c .before .before .before .before .args in
+    let s : tie.Start = search needs in
+    let a = s .args in
     c .limited .ensures
     ∙ ap (limited (a .limit)) (c .before .middle .ensures)
     ∙ where-some (λ (l : List ℤ). limited (a .limit) (midpoint (withOwn (a .sends-sync) l)) ≡ offsetTerm l (a .sends-sync) (a .limit))

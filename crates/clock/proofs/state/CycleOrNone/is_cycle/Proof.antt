@@ -6,7 +6,7 @@ use mathlib.Core.Path.{sym, ap}
 use Rattle.clock.specs.State.{isCycle}
 
 returns-2 : tie.Need-returns-2
-returns-2 c = let s = c .before .before .before .before .before in sym (ap (isCycle (s .args .sought .0)) (c .before .before .before .self .given .1))
+returns-2 c = let s : tie.Start = search needs in sym (ap (isCycle (s .args .sought .0)) (c .before .before .before .self .given .1))
 
 pub is-cycle-spec : {M : Type 1} → statement M
 is-cycle-spec = tie.close (tie.spec (λ c. search needs) (λ c. search needs) (λ c. search needs) returns-2)

@@ -17,7 +17,7 @@ long c = search needs
 
 returns : tie.Need-returns
 returns c =
-    let s = c .before .before .before in
+    let s : tie.Start = search needs in
     let v = s .args .self in
     let f : SFits w32 (c .midpoint .result) = search needs in
     rw (toZ-ofZ f)
@@ -26,7 +26,7 @@ returns c =
 
 returns-2 : tie.Need-returns-2
 returns-2 c =
-    let s = c .before .before .before in
+    let s : tie.Start = search needs in
     let v = s .args .self in
     let f : SFits w32 (c .midpoint2 .result) = search needs in
     rw (toZ-ofZ f)
