@@ -38,32 +38,19 @@ pub fn first_miss(status: Status, header: Header) -> Reason
 fn misses_words(status: Status, header: Header) -> bool
     ensures { λ r. ⌜ r ≡ missesWords (placeOf status) header ⌝ }
 {
-    if !is_static(status) {
-        return false;
-    }
-    header.words as u32 != status.settings.static_payload_words()
+    is_static(status) & (header.words as u32 != status.settings.static_payload_words())
 }
 
 // Misses (d), which is for dynamic slots.
 fn misses_clear(status: Status, header: Header) -> bool
     ensures { λ r. ⌜ r ≡ missesClear (placeOf status) header ⌝ }
 {
-    if is_static(status) {
-        return false;
-    }
-    if header.sync {
-        return true;
-    }
-    header.startup
+    !is_static(status) & (header.sync | header.startup)
 }
 
 // Misses (e), which is for dynamic slots.
 fn misses_not_null(status: Status, header: Header) -> bool
     ensures { λ r. ⌜ r ≡ missesNotNull (placeOf status) header ⌝ }
 {
-    if is_static(status) {
-        return false;
-    }
-    let is_not_null = header.null_frame_bit;
-    !is_not_null
+    !is_static(status) & !header.null_frame_bit
 }

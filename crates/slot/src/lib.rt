@@ -4,8 +4,9 @@
 // Entry: `open_slot` on settings, a channel number, a slot and a cycle. It takes whatever comes and gives an answer and a status. For
 // the crates above: `is_sound`, by which a status that a host hands in is refused, `first_miss`, the first test that a frame
 // misses, `Status::none`, which is all zeros, and `is_static`.
+//
+// Flags are joined by `&` and `|`: the prover follows them more easily than `&&` and `||`.
 mod content;
-mod flags;
 mod opening;
 mod sound;
 mod status;

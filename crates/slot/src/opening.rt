@@ -37,13 +37,10 @@ impl Opening {
     pub fn field(self) -> u8
         ensures { λ r. ⌜ r ≡ told self .field ⌝ }
     {
-        match self {
-            Opening::Opened => 0,
-            Opening::SettingOutOfRange(field) => field,
-            Opening::NotAChannel => 0,
-            Opening::NotASlot => 0,
-            Opening::CycleTooHigh => 0,
-        }
+        let Opening::SettingOutOfRange(field) = self else {
+            return 0;
+        };
+        field
     }
 }
 
@@ -63,6 +60,7 @@ pub fn open_slot(settings: Settings, channel: u8, slot: Slot, cycle: Cycle) -> O
     let Named::Is(named) = Channel::named(channel) else {
         return refused(Opening::NotAChannel);
     };
+    // Both are asked before either is told, so that the order of the two tests can be tried the other way round.
     let is_not_a_slot = slot.is_not_an_id();
     let is_too_high = cycle.is_too_high();
     if is_not_a_slot {

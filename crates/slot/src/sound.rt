@@ -3,7 +3,6 @@ ghost use mathlib.Core.Path.{_≡_};
 ghost use Rattle.slot.specs.Judging.{placeOf};
 ghost use Rattle.slot.specs.Sound.{wouldOpen, couldBeRead, keepsWell, sound};
 use crate::content;
-use crate::flags;
 use crate::status::Kept;
 use crate::status::Status;
 use header::Header;
@@ -17,18 +16,17 @@ pub fn is_sound(status: Status) -> bool
     if !would_open(status) {
         return false;
     }
-    if !flags::exactly_with(status.content_error, reason.is_reason()) {
+    if status.content_error != reason.is_reason() {
         return false;
     }
-    if !flags::exactly_with(status.valid, kept.is_frame()) {
+    if status.valid != kept.is_frame() {
         return false;
     }
     if !keeps_well(status, kept) {
         return false;
     }
-    let has_arrival = status.has_arrival();
-    let is_conflict = flags::both(status.own_sending, has_arrival);
-    flags::exactly_with(status.conflict, is_conflict)
+    let is_conflict = status.own_sending & status.has_arrival();
+    status.conflict == is_conflict
 }
 
 // Whether its settings, slot and cycle would open a slot. Its channel would: it is one.
@@ -73,7 +71,6 @@ fn could_be_read(header: Header) -> bool
     if header::startup_without_sync(header.startup, header.sync) {
         return false;
     }
-    let checksum = header.checksum;
     let due = header.checksum_due();
-    checksum == due
+    header.checksum == due
 }

@@ -134,12 +134,6 @@ impl Status {
     pub fn has_arrival(self) -> bool
         ensures { λ r. ⌜ r ≡ hasArrival self ⌝ }
     {
-        if self.syntax_error {
-            return true;
-        }
-        if self.content_error {
-            return true;
-        }
-        self.valid
+        self.syntax_error | (self.content_error | self.valid)
     }
 }

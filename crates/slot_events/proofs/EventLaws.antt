@@ -1,11 +1,11 @@
 -- An event, by what was found of it.
 use Prim.Native.Nat.{ℕ}
-use mathlib.Core.Path.{_≡_, refl, sym, ap, _∙_}
-use mathlib.Core.Bool.{true, false, not}
+use mathlib.Core.Path.{_≡_, refl, sym, ap, subst, _∙_}
+use mathlib.Core.Bool.{Bool, true, false, not}
 use mathlib.Core.List.{List}
-use borrow.Author.Tests.{eq-eqb, ne-eqb}
+use borrow.Author.Tests.{eq-eqb, ne-eqb, not-true, not-false}
 use Rattle.refusal.specs.Refusal.{first, ifAccepted}
-use Rattle.refusal.proofs.FirstLaws.{first-skip, first-here, first-end, if-accepted}
+use Rattle.refusal.proofs.FirstLaws.{start, passed, first-at, first-none-left, if-accepted}
 use Rattle.checksum.specs.declared.Channel.{Channel}
 use Rattle.header.specs.declared.Header.{Header}
 use Rattle.header.specs.Layout.{noHeader}
@@ -21,7 +21,8 @@ use Rattle.slot.specs.declared.status.Status.{Status}
 use Rattle.slot.specs.Judging.{Place, firstMiss, firstReason, firstKept}
 use Rattle.slot.specs.Sound.{sound}
 use Rattle.slot_events.specs.declared.Recording.the-variants as recording
-use Rattle.slot_events.specs.Effect.{Event, arrival, keptBy, ofArrival, isRefused, brings, after, boundaryActivity, joined}
+use Rattle.slot_events.specs.declared.Judged.{Judged}
+use Rattle.slot_events.specs.Effect.{Event, arrival, keptBy, ofArrival, isRefused, brings, after}
 use Rattle.slot_events.specs.Events.{eventRefusals, EventSays}
 
 -- ---- no reason, no frame
@@ -67,59 +68,24 @@ brings-frame p bytes h says =
     let accepted : isRefused (p .channel) bytes ≡ false = ap not (eq-eqb (first (refusalsOn (p .channel) bytes)) 0 (a .0)) in
     rw (accepted, a .1)
 
--- ---- one flag set
-
-abbrev withBoundary : Status → Status
-withBoundary s =
-    record {
-      settings = s .settings;
-      channel = s .channel;
-      slot = s .slot;
-      cycle = s .cycle;
-      «syntax_error» = s .«syntax_error»;
-      «content_error» = s .«content_error»;
-      «boundary_violation» = true;
-      conflict = s .conflict;
-      valid = s .valid;
-      «own_sending» = s .«own_sending»;
-      reason = s .reason;
-      kept = s .kept;
-    }
-
-pub after-boundary : (s : Status) → withBoundary s ≡ after s boundaryActivity
-after-boundary s = rw (first-reason-none (s .reason), first-kept-none (s .kept))
-
-abbrev withSyntax : Status → Status
-withSyntax s =
-    record {
-      settings = s .settings;
-      channel = s .channel;
-      slot = s .slot;
-      cycle = s .cycle;
-      «syntax_error» = true;
-      «content_error» = s .«content_error»;
-      «boundary_violation» = s .«boundary_violation»;
-      conflict = s .conflict;
-      valid = s .valid;
-      «own_sending» = s .«own_sending»;
-      reason = s .reason;
-      kept = s .kept;
-    }
-
--- an arrival that is refused leaves what one without a reason and a frame leaves, and the syntax error
-pub after-refusal : (s t : Status) → t ≡ joined s (ofArrival false reason.NoReason kept.Nothing)
-    → withSyntax t ≡ joined s (ofArrival true reason.NoReason kept.Nothing)
-after-refusal s t same = ap withSyntax same
-
 -- ---- the statement
 
 pub event-refused : (s : Status) (e : Event) → sound s ≡ false → EventSays s e (record { answer = recording.NotSound; status = s })
 event-refused s e h =
-    let n : first (eventRefusals s) ≡ 23 = first-here 23 _ (ap not h) in
+    let n : first (eventRefusals s) ≡ 23 = first-at start (ap not h) in
     record { answers = sym n; leaves = sym (ap (λ (k : ℕ). ifAccepted k (after s e) s) n) }
 
 pub event-recorded : (s : Status) (e : Event) (t : Status) → sound s ≡ true → t ≡ after s e
     → EventSays s e (record { answer = recording.Recorded; status = t })
 event-recorded s e t h same =
-    let n : first (eventRefusals s) ≡ 0 = first-skip 23 _ (ap not h) ∙ first-end in
+    let n : first (eventRefusals s) ≡ 0 = first-none-left (passed (ap not h)) in
     record { answers = sym n; leaves = same ∙ sym (ap (λ (k : ℕ). ifAccepted k (after s e) s) n) }
+
+-- the same, by what `is_sound` answered and by what is returned
+pub refused-so : (s : Status) (e : Event) {b : Bool} {r : Judged} → b ≡ sound s → not b ≡ true
+    → r ≡ record { answer = recording.NotSound; status = s } → EventSays s e r
+refused-so s e {b = b} asked test is = subst (EventSays s e) (sym is) (event-refused s e (sym asked ∙ not-true b test))
+
+pub recorded-so : (s : Status) (e : Event) {b : Bool} {t : Status} {r : Judged} → b ≡ sound s → not b ≡ false
+    → r ≡ record { answer = recording.Recorded; status = t } → t ≡ after s e → EventSays s e r
+recorded-so s e {b = b} {t = t} asked test is same = subst (EventSays s e) (sym is) (event-recorded s e t (sym asked ∙ not-false b test) same)

@@ -3,7 +3,7 @@
 // Entries: `arrived` on a status and bytes, `boundary` and `sent` on a status. Each takes whatever comes and gives an answer and
 // a status.
 ghost use mathlib.Core.Path.{_≡_};
-ghost use mathlib.Core.Bool.{false, _||_};
+ghost use mathlib.Core.Bool.{false};
 ghost use Rattle.slot_events.specs.declared.Recording.the-variants.{Recorded, NotSound};
 ghost use Rattle.slot_events.specs.Effect.{arrival, boundaryActivity, ownSending, keptBy, ofArrival, joined};
 ghost use Rattle.slot_events.specs.Events.{told, EventSays};
@@ -77,7 +77,7 @@ pub fn sent(status: Status) -> Judged
     let has_arrival = status.has_arrival();
     let mut next = status;
     next.own_sending = true;
-    next.conflict = either(has_arrival, status.conflict);
+    next.conflict = has_arrival | status.conflict;
     recorded(next)
 }
 
@@ -128,22 +128,12 @@ fn with_arrival(status: Status, reason: Reason, kept: Kept) -> Status
         slot,
         cycle,
         syntax_error: status.syntax_error,
-        content_error: either(is_missed, status.content_error),
+        content_error: is_missed | status.content_error,
         boundary_violation: status.boundary_violation,
-        conflict: either(status.own_sending, status.conflict),
-        valid: either(is_passed, status.valid),
+        conflict: status.own_sending | status.conflict,
+        valid: is_passed | status.valid,
         own_sending: status.own_sending,
         reason: first_reason.or_later(reason),
         kept: first_kept.or_later(kept),
     }
-}
-
-// Flags joined. (The prover follows an early return more easily than `||`.)
-fn either(a: bool, b: bool) -> bool
-    ensures { λ r. ⌜ r ≡ a || b ⌝ }
-{
-    if a {
-        return true;
-    }
-    b
 }

@@ -14,15 +14,20 @@ returns : tie.Need-returns
 returns c =
     let s : tie.Start = search needs in
     let k = s .args .clock in
-    let offset = c .before .before .before .before .before .before .offset-found .ensures in
+    let found : tie.After-offset-found = search needs in
+    let list-of : tie.After-list-of = search needs in
+    let cycle : tie.After-current-cycle = search needs in
+    let unit : tie.After-external-offset-unit = search needs in
+    let unit2 : tie.After-external-rate-unit = search needs in
+    let external : tie.After-with-external = search needs in
+    let offset = found .offset-found .ensures in
     let rate = s .pre .1 in
-    let list : c .before .before .before .before .before .before .before .list-of .result ≡ listOf (currentCycle k) k =
-    c .before .before .before .before .before .before .before .list-of .ensures ∙ ap (λ (n : Cycle). listOf n k) (c .before .before .before .before .before .before .before .before .current-cycle .ensures) in
-    let offset-term : c .before .before .with-external .result .0 ≡ withExternal (offsetFound k .value .0) (signOf (s .args .offset-control)) (externalOffsetUnit (k .settings)) =
-    rw (c .before .before .before .external-offset-unit .ensures, offset) at (c .before .before .with-external .ensures)
-    ∙ offset-reported k (s .pre .0) (s .args .offset-control) in
+    let list : list-of .list-of .result ≡ listOf (currentCycle k) k =
+    list-of .list-of .ensures ∙ ap (λ (n : Cycle). listOf n k) (cycle .current-cycle .ensures) in
+    let offset-term : external .with-external .result .0 ≡ withExternal (offsetFound k .value .0) (signOf (s .args .offset-control)) (externalOffsetUnit (k .settings)) =
+    rw (unit .external-offset-unit .ensures, offset) at (external .with-external .ensures) ∙ offset-reported k (s .pre .0) (s .args .offset-control) in
     let rate-term : c .with-external2 .result .0 ≡ withExternal (rateFound k .value .0) (signOf (s .args .rate-control)) (externalRateUnit (k .settings)) =
-    rw (c .before .external-rate-unit .ensures, rate) at (c .with-external2 .ensures) ∙ rate-reported k (s .pre .0) (s .args .rate-control) in
+    rw (unit2 .external-rate-unit .ensures, rate) at (c .with-external2 .ensures) ∙ rate-reported k (s .pre .0) (s .args .rate-control) in
     λ i. record {
       offset = record { 0 = offset-term i };
       rate = record { 0 = rate-term i };

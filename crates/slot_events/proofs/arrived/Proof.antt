@@ -1,54 +1,55 @@
 -- A sound status comes back with what the arrival brings, any other as it was.
-use mathlib.Core.Path.{_≡_, sym, ap, subst, _∙_}
-use mathlib.Core.Bool.{true, false}
-use borrow.Author.Tests.{not-true, not-false}
+use mathlib.Core.Path.{subst}
 use denote.Ref.{now}
 use Rattle.header.specs.declared.Header.{Header}
 use Rattle.frame.specs.declared.Reading.the-variants.{Accepted}
 use Rattle.frame.specs.Read.{ReadOnSays}
-use Rattle.slot.specs.Judging.{placeOf}
-use Rattle.slot.specs.Sound.{sound}
-use Rattle.slot_events.specs.Effect.{arrival, joined}
-use Rattle.slot_events.specs.Events.{EventSays}
 use Rattle.frame.proofs.AnswerLaws.{not-accepted}
-use Rattle.slot_events.proofs.EventLaws.{brings-refusal, after-refusal, brings-frame, event-refused, event-recorded}
+use Rattle.slot.specs.Judging.{placeOf}
+use Rattle.slot_events.specs.Effect.{arrival}
+use Rattle.slot_events.proofs.EventLaws.{brings-refusal, brings-frame, refused-so, recorded-so}
 use borrow.Author.Needs.{needs}
 use Rattle.slot_events.proofs.arrived.Statement.{statement}
 use Rattle.slot_events.proofs.arrived.Tie as tie
 
-good : (c : tie.Else1) → sound (c .before .before .before .args .status) ≡ true
-good c = sym (c .before .«is-sound» .ensures) ∙ not-false _ (c .if1 .left)
-
 returns : tie.Need-returns
 returns c =
-    let a = c .before .before .before .before .args in
-    let unsound : sound (a .status) ≡ false = sym (c .before .before .«is-sound» .ensures) ∙ not-true _ (c .before .if1 .taken) in
-    let e = arrival (now (a .bytes)) in
-    subst (EventSays (a .status) e) (sym (c .«not-sound» .ensures)) (event-refused (a .status) e unsound)
+    let s : tie.Start = search needs in
+    refused-so (s .args .status) (arrival (now (s .args .bytes))) (c .before .before .«is-sound» .ensures) (c .before .if1 .taken) (c .«not-sound» .ensures)
 
 returns-2 : tie.Need-returns-2
 returns-2 c =
-    let here = c .before .before .before in
-    let a = here .before .before .before .before .args in
-    let e = arrival (now (a .bytes)) in
-    let brings = brings-refusal (placeOf (a .status)) (now (a .bytes)) (here .«read-on» .result) (here .«read-on» .ensures)
-    (not-accepted (here .«read-on» .result) (c .before .before .match .keys2)) in
-    subst (EventSays (a .status) e) (sym (c .recorded .ensures))
-    (event-recorded (a .status) e _ (good (here .before)) (after-refusal (a .status) (c .before .«with-arrival» .result) (c .before .«with-arrival» .ensures) ∙ sym (ap (joined (a .status)) brings)))
+    let s : tie.Start = search needs in
+    let test : tie.Else1 = search needs in
+    let read : tie.After-read-on = search needs in
+    let refused : tie.At-match-keys2 = search needs in
+    let status = s .args .status in
+    let bytes = now (s .args .bytes) in
+    let brings = brings-refusal (placeOf status) bytes (read .«read-on» .result) (read .«read-on» .ensures)
+    (not-accepted (read .«read-on» .result) (refused .match .keys2)) in
+    recorded-so status (arrival bytes) (test .before .«is-sound» .ensures) (test .if1 .left) (c .recorded .ensures)
+    (rw (brings, c .before .«with-arrival» .ensures))
 
 returns-3 : tie.Need-returns-3
 returns-3 c =
-    let found = c .before .before .before .before .before in
-    let here = found .before .before in
-    let a = here .before .before .before .before .args in
-    let e = arrival (now (a .bytes)) in
+    let s : tie.Start = search needs in
+    let test : tie.Else1 = search needs in
+    let read : tie.After-read-on = search needs in
+    let found : tie.After-reading = search needs in
+    let status = s .args .status in
+    let bytes = now (s .args .bytes) in
+    let missed : tie.After-first-miss = search needs in
+    let kept : tie.After-kept-by = search needs in
     let header : Header = found .reading .given .0 .0 in
-    let says : ReadOnSays (a .status .channel) (now (a .bytes)) (Accepted header) =
-    subst (ReadOnSays (a .status .channel) (now (a .bytes))) (found .reading .given .1) (here .«read-on» .ensures) in
-    let brings = brings-frame (placeOf (a .status)) (now (a .bytes)) header says in
-    subst (EventSays (a .status) e) (sym (c .recorded2 .ensures))
-    (event-recorded (a .status) e _ (good (here .before))
-    (rw (brings, c .before .«with-arrival2» .ensures, c .before .before .«kept-by» .ensures, c .before .before .before .«first-miss» .ensures)))
+    let says : ReadOnSays (status .channel) bytes (Accepted header) =
+    subst (ReadOnSays (status .channel) bytes) (found .reading .given .1) (read .«read-on» .ensures) in
+    recorded-so status (arrival bytes) (test .before .«is-sound» .ensures) (test .if1 .left) (c .recorded2 .ensures)
+    (rw (
+      brings-frame (placeOf status) bytes header says,
+      c .before .«with-arrival2» .ensures,
+      kept .«kept-by» .ensures,
+      missed .«first-miss» .ensures,
+    ))
 
 pub arrived-spec : {M : Type 1} → statement M
 arrived-spec =

@@ -1,26 +1,23 @@
 -- A sound status comes back with the boundary violation, any other as it was.
-use mathlib.Core.Path.{_≡_, sym, subst, _∙_}
-use mathlib.Core.Bool.{true, false}
-use borrow.Author.Tests.{not-true, not-false}
-use Rattle.slot.specs.Sound.{sound}
+use Rattle.slot.specs.declared.status.Status.{Status}
 use Rattle.slot_events.specs.Effect.{boundaryActivity}
-use Rattle.slot_events.specs.Events.{EventSays}
-use Rattle.slot_events.proofs.EventLaws.{after-boundary, event-refused, event-recorded}
+use Rattle.slot_events.proofs.EventLaws.{first-reason-none, first-kept-none, refused-so, recorded-so}
 use borrow.Author.Needs.{needs}
 use Rattle.slot_events.proofs.boundary.Statement.{statement}
 use Rattle.slot_events.proofs.boundary.Tie as tie
 
+abbrev given : tie.Start → Status
+given s = s .args .status
+
 returns : tie.Need-returns
-returns c =
-    let s = c .before .before .before .args .status in
-    let unsound : sound s ≡ false = sym (c .before .before .«is-sound» .ensures) ∙ not-true _ (c .before .if1 .taken) in
-    subst (EventSays s boundaryActivity) (sym (c .«not-sound» .ensures)) (event-refused s boundaryActivity unsound)
+returns c = refused-so (given (search needs)) boundaryActivity (c .before .before .«is-sound» .ensures) (c .before .if1 .taken) (c .«not-sound» .ensures)
 
 returns-2 : tie.Need-returns-2
 returns-2 c =
-    let s = c .before .before .before .args .status in
-    let good : sound s ≡ true = sym (c .before .before .«is-sound» .ensures) ∙ not-false _ (c .before .if1 .left) in
-    subst (EventSays s boundaryActivity) (sym (c .recorded .ensures)) (event-recorded s boundaryActivity _ good (after-boundary s))
+    let s = given (search needs) in
+    let test : tie.Else1 = search needs in
+    recorded-so s boundaryActivity (test .before .«is-sound» .ensures) (test .if1 .left) (c .recorded .ensures)
+    (rw (first-reason-none (s .reason), first-kept-none (s .kept)))
 
 pub boundary-spec : {M : Type 1} → statement M
 boundary-spec =

@@ -1,88 +1,71 @@
 -- The five clauses in their order: each return has those before it.
 use mathlib.Core.Path.{_≡_, sym, ap, _∙_}
-use mathlib.Core.Bool.{true, _&&_}
+use mathlib.Core.Bool.{Bool, true, false, Bool·beq, _&&_}
 use borrow.Author.Tests.{not-true, not-false}
-use Rattle.slot.specs.Judging.{placeOf, isReason, isFrame, hasArrival}
+use Rattle.slot.specs.declared.status.Status.{Status}
+use Rattle.slot.specs.Judging.{placeOf, isReason, isFrame}
 use Rattle.slot.specs.Sound.{wouldOpen, keepsWell, exactlyWith}
 use borrow.Author.Needs.{needs}
 use Rattle.slot.proofs.sound.is_sound.Statement.{statement}
 use Rattle.slot.proofs.sound.is_sound.Tie as tie
 
--- ---- what each test says of the status
+-- "stands exactly with" is equal flags
+stands-with : (a : Bool) {b z : Bool} → b ≡ z → exactlyWith a z ≡ Bool·beq a b
+stands-with true {b = true} e = ap (exactlyWith true) (sym e)
+stands-with true {b = false} e = ap (exactlyWith true) (sym e)
+stands-with false {b = true} e = ap (exactlyWith false) (sym e)
+stands-with false {b = false} e = ap (exactlyWith false) (sym e)
 
-opens : (c : tie.After-would-open) → wouldOpen (placeOf (c .before .args .status)) ≡ c .«would-open» .result
-opens c = sym (c .«would-open» .ensures)
+-- ---- what each test says, and the clauses that hold where it was passed
 
-opened : (c : tie.Else1) → wouldOpen (placeOf (c .before .before .args .status)) ≡ true
-opened c = opens (c .before) ∙ not-false (c .before .«would-open» .result) (c .if1 .left)
+abbrev given : tie.Start → Status
+given s = s .args .status
 
-content : (c : tie.After-exactly-with)
-    → exactlyWith (c .before .before .before .before .args .status .«content_error») (isReason (c .before .before .before .before .args .status .reason)) ≡ c .«exactly-with» .result
-content c =
-    ap (exactlyWith (c .before .before .before .before .args .status .«content_error»)) (sym (c .before .«is-reason» .ensures))
-    ∙ sym (c .«exactly-with» .ensures)
+opens : (c : tie.Else1) → wouldOpen (placeOf (given (search needs))) ≡ true
+opens c = sym (c .before .«would-open» .ensures) ∙ not-false _ (c .if1 .left)
 
-with-content : (c : tie.Else2)
-    → exactlyWith (c .before .before .before .before .before .args .status .«content_error») (isReason (c .before .before .before .before .before .args .status .reason)) ≡ true
-with-content c = content (c .before) ∙ not-false (c .before .«exactly-with» .result) (c .if2 .left)
+abbrev withReason : Status → Bool
+withReason s = exactlyWith (s .«content_error») (isReason (s .reason))
 
-valid : (c : tie.After-exactly-with2)
-    → exactlyWith (c .before .before .before .before .before .before .before .args .status .valid) (isFrame (c .before .before .before .before .before .before .before .args .status .kept)) ≡ c .«exactly-with2» .result
-valid c =
-    ap (exactlyWith (c .before .before .before .before .before .before .before .args .status .valid)) (sym (c .before .«is-frame» .ensures))
-    ∙ sym (c .«exactly-with2» .ensures)
+reason-asked : (c : tie.After-is-reason) → let s = given (search needs) in withReason s ≡ Bool·beq (s .«content_error») (c .«is-reason» .result)
+reason-asked c = stands-with (given (search needs) .«content_error») (c .«is-reason» .ensures)
 
-with-valid : (c : tie.Else3)
-    → exactlyWith (c .before .before .before .before .before .before .before .before .args .status .valid) (isFrame (c .before .before .before .before .before .before .before .before .args .status .kept)) ≡ true
-with-valid c = valid (c .before) ∙ not-false (c .before .«exactly-with2» .result) (c .if3 .left)
+content : (c : tie.Else2) → withReason (given (search needs)) ≡ true
+content c = reason-asked (search needs) ∙ not-false _ (c .if2 .left)
 
-kept : (c : tie.After-keeps-well)
-    → keepsWell (placeOf (c .before .before .before .before .before .before .before .before .before .args .status)) (c .before .before .before .before .before .before .before .before .before .args .status .kept) ≡ c .«keeps-well» .result
-kept c = sym (c .«keeps-well» .ensures)
+abbrev withFrame : Status → Bool
+withFrame s = exactlyWith (s .valid) (isFrame (s .kept))
 
-well : (c : tie.Else4)
-    → keepsWell (placeOf (c .before .before .before .before .before .before .before .before .before .before .args .status)) (c .before .before .before .before .before .before .before .before .before .before .args .status .kept) ≡ true
-well c = kept (c .before) ∙ not-false (c .before .«keeps-well» .result) (c .if4 .left)
+frame-asked : (c : tie.After-is-frame) → let s = given (search needs) in withFrame s ≡ Bool·beq (s .valid) (c .«is-frame» .result)
+frame-asked c = stands-with (given (search needs) .valid) (c .«is-frame» .ensures)
+
+valid : (c : tie.Else3) → withFrame (given (search needs)) ≡ true
+valid c = frame-asked (search needs) ∙ not-false _ (c .if3 .left)
+
+keeps : (c : tie.Else4) → let s = given (search needs) in keepsWell (placeOf s) (s .kept) ≡ true
+keeps c = sym (c .before .«keeps-well» .ensures) ∙ not-false _ (c .if4 .left)
 
 -- ---- each return
 
 returns : tie.Need-returns
-returns c = rw (opens (c .before) ∙ not-true (c .before .«would-open» .result) (c .if1 .taken))
+returns c = rw (sym (c .before .«would-open» .ensures) ∙ not-true _ (c .if1 .taken))
 
 returns-2 : tie.Need-returns-2
-returns-2 c = rw (opened (c .before .before .before), content (c .before) ∙ not-true (c .before .«exactly-with» .result) (c .if2 .taken))
+returns-2 c = rw (opens (search needs), reason-asked (search needs) ∙ not-true _ (c .if2 .taken))
 
 returns-3 : tie.Need-returns-3
-returns-3 c =
-    rw (
-      opened (c .before .before .before .before .before .before),
-      with-content (c .before .before .before),
-      valid (c .before) ∙ not-true (c .before .«exactly-with2» .result) (c .if3 .taken),
-    )
+returns-3 c = rw (opens (search needs), content (search needs), frame-asked (search needs) ∙ not-true _ (c .if3 .taken))
 
 returns-4 : tie.Need-returns-4
 returns-4 c =
-    rw (
-      opened (c .before .before .before .before .before .before .before .before),
-      with-content (c .before .before .before .before .before),
-      with-valid (c .before .before),
-      kept (c .before) ∙ not-true (c .before .«keeps-well» .result) (c .if4 .taken),
-    )
+    rw (opens (search needs), content (search needs), valid (search needs), sym (c .before .«keeps-well» .ensures) ∙ not-true _ (c .if4 .taken))
 
 returns-5 : tie.Need-returns-5
 returns-5 c =
-    let e = c .before .before .before in
-    let s = e .before .before .before .before .before .before .before .before .before .before .args .status in
-    let conflict : c .«exactly-with3» .result ≡ exactlyWith (s .conflict) (s .«own_sending» && hasArrival s) =
-    c .«exactly-with3» .ensures
-    ∙ ap (exactlyWith (s .conflict)) (c .before .both .ensures ∙ ap (_&&_ (s .«own_sending»)) (c .before .before .«has-arrival» .ensures)) in
-    rw (
-      opened (e .before .before .before .before .before .before .before .before),
-      with-content (e .before .before .before .before .before),
-      with-valid (e .before .before),
-      well e,
-      conflict,
-    )
+    let s = given (search needs) in
+    let arrived : tie.After-has-arrival = search needs in
+    let both = ap (_&&_ (s .«own_sending»)) (arrived .«has-arrival» .ensures) in
+    rw (opens (search needs), content (search needs), valid (search needs), keeps (search needs), stands-with (s .conflict) both)
 
 pub is-sound-spec : {M : Type 1} → statement M
 is-sound-spec =
@@ -91,14 +74,10 @@ is-sound-spec =
     (λ c κs. search needs)
     returns
     (λ c κs. search needs)
-    (λ c κs. search needs)
     returns-2
-    (λ c κs. search needs)
     (λ c κs. search needs)
     returns-3
     (λ c κs. search needs)
     returns-4
-    (λ c κs. search needs)
-    (λ c κs. search needs)
     (λ c κs. search needs)
     returns-5)
