@@ -19,7 +19,7 @@ use Rattle.settings.specs.Sheet.{field, _to_, ranges, within, firstOutside, fir
 use Rattle.correction.specs.Terms.{isOutside}
 use Rattle.sync_list.specs.declared.list.SyncList.{SyncList}
 use Rattle.sync_list.specs.Lists.{listed, idsOf, noneTwice}
-use Rattle.sync_list.specs.Sound.{rowsSound, listSound}
+use Rattle.list_soundness.specs.Sound.{rowsSound, listSound}
 use Rattle.clock.specs.declared.state.Clock.{Clock}
 use Rattle.clock.specs.Sound.{cycleSound, rateSound, sound}
 

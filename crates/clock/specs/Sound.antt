@@ -5,7 +5,7 @@ use Rattle.header.specs.Refusals.{cycleTooHigh}
 use Rattle.settings.specs.Sheet.{outOfRange, syncIdLimit, rateLimit}
 use Rattle.correction.specs.declared.microtick.SignedMicrotick.{SignedMicrotick}
 use Rattle.correction.specs.Terms.{isOutside}
-use Rattle.sync_list.specs.Sound.{listSound}
+use Rattle.list_soundness.specs.Sound.{listSound}
 use Rattle.clock.specs.declared.state.CycleOrNone.{CycleOrNone}
 use Rattle.clock.specs.declared.state.CycleOrNone.the-variants.{NoCycle, Is}
 use Rattle.clock.specs.declared.state.Clock.{Clock}

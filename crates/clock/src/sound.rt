@@ -25,10 +25,10 @@ pub fn is_sound(clock: Clock) -> bool
         return false;
     }
     let limit = settings.sync_id_limit();
-    if !even.is_sound(limit) {
+    if !list_soundness::is_sound(even, limit) {
         return false;
     }
-    if !odd.is_sound(limit) {
+    if !list_soundness::is_sound(odd, limit) {
         return false;
     }
     rate_sound(clock.rate, settings.rate_limit())

@@ -27,7 +27,7 @@ use Rattle.correction.specs.Terms.{offsetTerm, rateTerm}
 use Rattle.correction.specs.External.{notAControl}
 use Rattle.sync_list.specs.declared.row.Measurement.{Measurement}
 use Rattle.sync_list.specs.Lists.{rowCount, empty, listed, recorded}
-use Rattle.sync_list.specs.Sound.{listSound}
+use Rattle.list_soundness.specs.Sound.{listSound}
 use Rattle.measurements.specs.Measurements.{standsFor, differentIds}
 use Rattle.measurements.specs.Terms.{offsetValuesOf, rateValuesOf}
 use Rattle.measurements.proofs.AddingLaws.{recorded-permuted}

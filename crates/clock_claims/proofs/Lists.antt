@@ -22,10 +22,10 @@ use Rattle.sync_list.specs.declared.row.Row.{Row}
 use Rattle.sync_list.specs.declared.list.SyncList.{SyncList}
 use Rattle.sync_list.specs.Rows.{isMeasured, on}
 use Rattle.sync_list.specs.Lists.{rowCount, listed, idOf, idsOf, isAmong, noneTwice}
-use Rattle.sync_list.specs.Sound.{isInRange, rowSound, rowsSound, listSound}
+use Rattle.list_soundness.specs.Sound.{isInRange, rowSound, rowsSound, listSound}
 use Rattle.measurements.specs.Measurements.{Taken, taken, standsFor}
-use Rattle.sync_list.proofs.RangeLaws.{Ranged, row-ranged}
-use Rattle.measurements.proofs.AmongLaws.{none-twice}
+use Rattle.list_soundness.proofs.RangedLaws.{Ranged, row-ranged}
+use Rattle.sync_list.proofs.AmongLaws.{none-twice}
 use Rattle.measurements.proofs.RowLaws.{rows-ids}
 use Rattle.clock.proofs.SoundLaws.{count-within, rows-good, ids-different}
 use Rattle.clock_claims.specs.Typed.{TypedList}

@@ -25,7 +25,7 @@ use Rattle.sync_list.specs.declared.row.Measurement.{Measurement}
 use Rattle.sync_list.specs.declared.list.SyncList.{SyncList}
 use Rattle.sync_list.specs.Rows.{withMeasured}
 use Rattle.sync_list.specs.Lists.{rowCount, listed, idsOf, isAmong, placeOf as listPlace, isFullFor, recorded, noneTwice, rowIn}
-use Rattle.sync_list.specs.Sound.{listSound, rowsSound}
+use Rattle.list_soundness.specs.Sound.{listSound, rowsSound}
 use Rattle.sync_list.proofs.ListLaws.{ids-long, listed-few}
 use Rattle.sync_list.proofs.PlaceLaws.{among-place, place-most}
 use Rattle.measurements.proofs.AddingLaws.{recorded-count-known, recorded-count-new, recorded-once, recorded-sound}

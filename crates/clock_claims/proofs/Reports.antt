@@ -13,7 +13,7 @@ use Rattle.refusal.proofs.FirstLaws.{first-zero, if-accepted}
 use Rattle.settings.specs.Sheet.{syncIdLimit, offsetLimit, rateLimit, driftDamping}
 use Rattle.correction.specs.Terms.{offsetTerm, rateTerm}
 use Rattle.sync_list.specs.Lists.{listed}
-use Rattle.sync_list.specs.Values.{rateValues}
+use Rattle.list_values.specs.Values.{rateValues}
 use Rattle.measurements.specs.Measurements.{Taken, standsFor, differentIds}
 use Rattle.measurements.specs.Terms.{offsetValuesOf, rateValuesOf}
 use Rattle.measurements.proofs.OrderLaws.{ids-permuted, offset-permuted, rate-permuted}

@@ -21,7 +21,7 @@ use Rattle.slot.specs.Sound as slot
 use Rattle.correction.specs.declared.microtick.Microtick.{Microtick}
 use Rattle.correction.specs.Microtick.{aboveTimeLimit}
 use Rattle.sync_list.specs.Lists.{empty, noneTwice, recorded}
-use Rattle.sync_list.specs.Sound.{rowsSound, listSound}
+use Rattle.list_soundness.specs.Sound.{rowsSound, listSound}
 use Rattle.clock.specs.declared.state.Clock.{Clock}
 use Rattle.clock.specs.declared.state.CycleOrNone.{CycleOrNone}
 use Rattle.clock.specs.declared.state.CycleOrNone.the-variants.{NoCycle, Is}

@@ -22,9 +22,9 @@ use Rattle.sync_list.specs.declared.row.Row.{Row}
 use Rattle.sync_list.specs.declared.list.SyncList.{SyncList}
 use Rattle.sync_list.specs.Rows.{on, isMeasured}
 use Rattle.sync_list.specs.Lists.{rowCount, listed, idOf, idsOf, isAmong, noneTwice, rowIn, isMeasuredOn, isFullFor}
-use Rattle.sync_list.specs.Sound.{listSound}
+use Rattle.list_soundness.specs.Sound.{listSound}
 use Rattle.measurements.specs.Measurements.{Taken, taken, standsFor, differentIds, sameChannel}
-use Rattle.measurements.proofs.AmongLaws.{not-among, none-twice}
+use Rattle.sync_list.proofs.AmongLaws.{not-among, none-twice}
 use Rattle.measurements.proofs.OrderLaws.{ids-permuted}
 use Rattle.measurements.proofs.RowLaws.{rows-ids}
 use Rattle.measurements.proofs.RowInLaws.{in-here, in-later}

@@ -21,8 +21,8 @@ use Rattle.correction.specs.External.{signOf, externalTerm, withExternal}
 use Rattle.correction.proofs.ControlLaws.{external-small}
 use Rattle.correction.proofs.HeldLaws.{held-fits}
 use Rattle.sync_list.specs.Lists.{listed}
-use Rattle.sync_list.specs.Values.{offsetValues, rateValues, rateValuesBy}
-use Rattle.sync_list.proofs.RangeLaws.{spread, rates-held, rates-near}
+use Rattle.list_values.specs.Values.{offsetValues, rateValues, rateValuesBy}
+use Rattle.list_values.proofs.RangeLaws.{spread, rates-held, rates-near}
 use Rattle.clock.specs.declared.state.Clock.{Clock}
 use Rattle.clock.specs.State.{isOdd, currentCycle, listOf}
 use Rattle.clock.specs.Sound.{sound}

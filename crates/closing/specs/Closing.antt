@@ -12,7 +12,7 @@ use Rattle.correction.specs.declared.term.Term.{Term}
 use Rattle.correction.specs.Terms.{offsetTerm, rateTerm}
 use Rattle.correction.specs.External.{notAControl, withExternal}
 use Rattle.sync_list.specs.Lists.{listed}
-use Rattle.sync_list.specs.Values.{offsetValues, rateValues}
+use Rattle.list_values.specs.Values.{offsetValues, rateValues}
 use Rattle.clock.specs.declared.state.CycleOrNone.the-variants.{NoCycle, Is}
 use Rattle.clock.specs.declared.state.Clock.{Clock}
 use Rattle.closing.specs.declared.Report.{Report}

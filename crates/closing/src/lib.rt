@@ -116,7 +116,7 @@ fn offset_found(clock: Clock) -> Term
 {
     let settings = clock.settings;
     let list = clock.list_of(clock.current_cycle());
-    let values = list.offset_values();
+    let values = list_values::offset_values(list);
     correction::offset_term(values, settings.sends_sync, settings.offset_limit())
 }
 
@@ -136,7 +136,7 @@ fn rate_found(clock: Clock) -> Term
             is_limited: false,
         };
     }
-    let values = odd.rate_values(even);
+    let values = list_values::rate_values(odd, even);
     correction::rate_term(
         values,
         settings.sends_sync,

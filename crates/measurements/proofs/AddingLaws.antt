@@ -23,12 +23,13 @@ use Rattle.sync_list.specs.declared.row.Row.{Row}
 use Rattle.sync_list.specs.declared.list.SyncList.{SyncList}
 use Rattle.sync_list.specs.Rows.{blank, isMeasured, on, withMeasured}
 use Rattle.sync_list.specs.Lists.{rowCount, listed, idOf, idsOf, isAmong, noneTwice, placeOf, rowIn, isMeasuredOn, recorded}
-use Rattle.sync_list.specs.Sound.{isInRange, rowSound, rowsSound}
+use Rattle.list_soundness.specs.Sound.{isInRange, rowSound, rowsSound}
 use Rattle.sync_list.proofs.ListLaws.{recorded-known, recorded-new}
 use Rattle.sync_list.proofs.PlaceLaws.{among-place, place-most}
-use Rattle.sync_list.proofs.RangeLaws.{Ranged, in-ranged}
+use Rattle.list_soundness.proofs.RangedLaws.{Ranged, in-ranged}
+use Rattle.list_soundness.proofs.SoundLaws.{sound-end}
 use Rattle.measurements.specs.Measurements.{Taken, taken, standsFor}
-use Rattle.measurements.proofs.AmongLaws.{none-twice-end}
+use Rattle.sync_list.proofs.AmongLaws.{none-twice-end}
 use Rattle.measurements.proofs.RowInLaws.{in-id}
 
 -- ---- one measurement more
@@ -91,13 +92,6 @@ sound-set (first ∷ rows) zero row s e = true-both (rowSound row) (rowsSound ro
 sound-set (first ∷ rows) (suc p) row s e =
     let h = both-true (rowSound first) (rowsSound rows) s in
     true-both (rowSound first) (rowsSound (set rows p row)) (h .0) (sound-set rows p row (h .1) e)
-
-sound-end : (rows : List Row) (row : Row) → rowsSound rows ≡ true → rowSound row ≡ true → rowsSound (rows ++ (row ∷ [])) ≡ true
-unfolding rowsSound
-sound-end [] row s e = true-both (rowSound row) true e refl
-sound-end (first ∷ rows) row s e =
-    let h = both-true (rowSound first) (rowsSound rows) s in
-    true-both (rowSound first) (rowsSound (rows ++ (row ∷ []))) (h .0) (sound-end rows row (h .1) e)
 
 ids-set : (rows : List Row) (p : ℕ) (row d : Row) → idOf row ≡ idOf (getD rows p d) → idsOf (set rows p row) ≡ idsOf rows
 ids-set [] p row d e = refl

@@ -10,7 +10,7 @@ use Rattle.midpoint.specs.Order.{Permuted}
 use Rattle.midpoint.proofs.OrderLaws.{permuted-refl}
 use Rattle.sync_list.specs.Lists.{isAmong}
 use Rattle.measurements.specs.Measurements.{without, different}
-use Rattle.measurements.proofs.AmongLaws.{not-among, unequal-sym}
+use Rattle.sync_list.proofs.AmongLaws.{not-among, unequal-sym}
 use Rattle.measurements.proofs.PermutedLaws.{rule-permuted}
 
 -- ---- without one

@@ -1,4 +1,3 @@
-pub mod AmongLaws
 pub mod PermutedLaws
 pub mod DifferentLaws
 pub mod SmallestLaws

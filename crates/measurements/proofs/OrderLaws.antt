@@ -15,7 +15,7 @@ use Rattle.correction.specs.declared.value.Value.the-variants.{Absent, Is}
 use Rattle.correction.specs.Microtick.{whole}
 use Rattle.correction.specs.Values.{rateValue}
 use Rattle.correction.specs.Terms.{damped, limited, offsetTerm, rateTerm, withOwn}
-use Rattle.sync_list.specs.Values.{before, present}
+use Rattle.list_values.specs.Values.{before, present}
 use Rattle.measurements.specs.Measurements.{Taken, differentIds, sameChannel}
 use Rattle.measurements.specs.Terms.{deviationOn, deviationsOn, offsetOf, offsetValuesOf, rateOf, rateValuesOf}
 use Rattle.measurements.proofs.PermutedLaws.{rule-permuted, map-permuted}

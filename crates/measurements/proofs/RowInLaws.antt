@@ -10,7 +10,7 @@ use Rattle.header.specs.declared.Slot.{Slot}
 use Rattle.sync_list.specs.declared.row.Row.{Row}
 use Rattle.sync_list.specs.Lists.{idOf, idsOf, isAmong, noneTwice, rowIn}
 use Rattle.sync_list.proofs.PlaceLaws.{place-here, place-later}
-use Rattle.measurements.proofs.AmongLaws.{not-among, none-twice, unequal-sym}
+use Rattle.sync_list.proofs.AmongLaws.{not-among, none-twice, unequal-sym}
 
 module _ (id : Slot) where
   pub in-here : (row : Row) (rows : List Row) → eqb (idOf row) (id .0) ≡ true → rowIn id (row ∷ rows) ≡ row

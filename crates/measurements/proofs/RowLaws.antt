@@ -20,11 +20,11 @@ use Rattle.sync_list.specs.declared.row.Measured.the-variants.{Nothing, Is}
 use Rattle.sync_list.specs.declared.row.Row.{Row}
 use Rattle.sync_list.specs.Rows.{isMeasured, valueOf, deviationsOf}
 use Rattle.sync_list.specs.Lists.{idOf, idsOf, isAmong, noneTwice, rowIn}
-use Rattle.sync_list.specs.Sound.{isInRange, rowSound, rowsSound}
-use Rattle.sync_list.specs.Values.{present, offsetValues, rateValues}
+use Rattle.list_soundness.specs.Sound.{isInRange, rowSound, rowsSound}
+use Rattle.list_values.specs.Values.{present, offsetValues, rateValues}
 use Rattle.measurements.specs.Measurements.{Taken, taken, standsFor, without, different, differentIds, sameChannel}
 use Rattle.measurements.specs.Terms.{deviationsIf, smallest, deviationOn, deviationsOn, offsetOf, offsetValuesOf, rateOf, rateValuesOf}
-use Rattle.measurements.proofs.AmongLaws.{not-among, none-twice}
+use Rattle.sync_list.proofs.AmongLaws.{not-among, none-twice}
 use Rattle.measurements.proofs.DifferentLaws.{without-met, without-absent, without-twice}
 use Rattle.measurements.proofs.RowInLaws.{in-here, in-later, in-id, in-each}
 

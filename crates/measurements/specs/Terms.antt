@@ -10,7 +10,7 @@ use Rattle.correction.specs.declared.value.Value.{Value}
 use Rattle.correction.specs.declared.value.Value.the-variants.{Absent}
 use Rattle.correction.specs.declared.value.Deviations.{Deviations}
 use Rattle.correction.specs.Values.{is, smaller, rateValue}
-use Rattle.sync_list.specs.Values.{present}
+use Rattle.list_values.specs.Values.{present}
 use Rattle.measurements.specs.Measurements.{Taken, differentIds, sameChannel}
 
 -- The deviations of the measurements that are meant.

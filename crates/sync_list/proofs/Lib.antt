@@ -1,4 +1,3 @@
+pub mod AmongLaws
 pub mod PlaceLaws
 pub mod ListLaws
-pub mod ValueLaws
-pub mod RangeLaws

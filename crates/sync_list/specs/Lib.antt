@@ -1,4 +1,2 @@
 pub mod Rows
 pub mod Lists
-pub mod Sound
-pub mod Values

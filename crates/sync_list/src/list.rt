@@ -1,7 +1,8 @@
 // The list of a cycle, and what a measurement makes of it.
 ghost use mathlib.Core.Path.{_≡_};
-ghost use Rattle.sync_list.specs.Lists.{rowCount, empty as Lists·empty, listed as Lists·listed, listedCount, placeOf, rowIn, isMeasuredOn, isFullFor, recorded};
-use crate::places;
+ghost use lib.ListN.{getD};
+ghost use Rattle.sync_list.specs.Rows.{blank};
+ghost use Rattle.sync_list.specs.Lists.{rowCount, empty as Lists·empty, listed as Lists·listed, listedCount, placeOf, isMeasuredOn, isFullFor, recorded};
 use crate::row::Measurement;
 use crate::row::Row;
 use checksum::Channel;
@@ -34,7 +35,7 @@ impl SyncList {
     }
 
     // How many rows are listed: all, where the count is above them.
-    pub(crate) fn listed(self) -> usize
+    pub fn listed(self) -> usize
         ensures { λ r. ⌜ r ≡ listedCount self ⌝ }
     {
         if self.count < ROWS {
@@ -47,20 +48,23 @@ impl SyncList {
     fn place(self, id: Slot) -> usize
         ensures { λ r. ⌜ r ≡ placeOf id self ⌝ }
     {
-        let rows = self.rows;
         let listed = self.listed();
-        let ids = places::ids_of(rows);
-        places::place_from(&ids, 0, listed, id.0)
+        let mut i: usize = 0;
+        while i < listed {
+            if self.rows[i].id.0 == id.0 {
+                return i;
+            }
+            i += 1;
+        }
+        i
     }
 
-    // The row of an ID; a blank one where it is not listed.
-    fn row_of(self, id: Slot) -> Row
-        ensures { λ r. ⌜ r ≡ rowIn id (Lists·listed self) ⌝ }
+    // The row in a place; a blank one of the ID where none is listed there.
+    fn row_at(self, place: usize, id: Slot) -> Row
+        ensures { λ r. ⌜ r ≡ getD (Lists·listed self) place (blank id) ⌝ }
     {
-        let rows = self.rows;
-        let place = self.place(id);
         if place < self.listed() {
-            return rows[place];
+            return self.rows[place];
         }
         Row::blank(id)
     }
@@ -69,7 +73,7 @@ impl SyncList {
     pub fn has(self, id: Slot, channel: Channel) -> bool
         ensures { λ r. ⌜ r ≡ isMeasuredOn id channel self ⌝ }
     {
-        let row = self.row_of(id);
+        let row = self.row_at(self.place(id), id);
         row.on(channel).is_measured()
     }
 
@@ -92,7 +96,7 @@ impl SyncList {
         if ROWS <= place {
             return self;
         }
-        let row = self.row_of(id).with(channel, measurement);
+        let row = self.row_at(place, id).with(channel, measurement);
         let mut next = self;
         next.rows[place] = row;
         if place < self.listed() {

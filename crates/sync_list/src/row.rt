@@ -93,7 +93,7 @@ impl Row {
         }
     }
 
-    pub(crate) fn deviations(self) -> Deviations
+    pub fn deviations(self) -> Deviations
         ensures { λ r. ⌜ r ≡ deviationsOf self ⌝ }
     {
         let on_a = self.on_a;

@@ -5,7 +5,7 @@ use Rattle.closing.proofs.offset_found.Tie as tie
 use mathlib.Core.Path.{_≡_}
 use Rattle.correction.specs.Terms.{valuesIn}
 use Rattle.sync_list.specs.Lists.{listed}
-use Rattle.sync_list.specs.Values.{offsetValues}
+use Rattle.list_values.specs.Values.{offsetValues}
 
 returns : tie.Need-returns
 returns c =

@@ -10,7 +10,7 @@ use Rattle.settings.specs.Sheet.{driftDamping, rateLimit}
 use Rattle.correction.specs.Microtick.{held}
 use Rattle.correction.specs.Terms.{rateTermBy}
 use Rattle.sync_list.specs.Lists.{listed}
-use Rattle.sync_list.specs.Values.{rateValuesBy}
+use Rattle.list_values.specs.Values.{rateValuesBy}
 
 odd-is : (c : tie.After-is-odd) → let s : tie.Start = search needs in isOdd (currentCycle (s .args .clock)) ≡ c .is-odd .result
 odd-is c = sym (c .is-odd .ensures ∙ ap isOdd (c .before .current-cycle .ensures))

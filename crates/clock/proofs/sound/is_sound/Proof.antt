@@ -9,7 +9,7 @@ use Rattle.clock.specs.declared.state.Clock.{Clock}
 use Rattle.clock.specs.Sound.{cycleSound, rateSound}
 use Rattle.settings.specs.Sheet.{outOfRange, syncIdLimit, rateLimit}
 use Rattle.settings.proofs.SheetLaws.{out-of-range, in-range}
-use Rattle.sync_list.specs.Sound.{listSound}
+use Rattle.list_soundness.specs.Sound.{listSound}
 use Prim.Native.Nat.{ℕ}
 
 -- ---- what each test says of the state

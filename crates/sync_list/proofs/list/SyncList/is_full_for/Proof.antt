@@ -19,14 +19,15 @@ returns c = rw (lt-leb _ _ (c .if1 .taken))
 
 returns-2 : tie.Need-returns-2
 returns-2 c =
-    let a = c .before .before .before .before .args in
-    let n = c .before .listed .result in
-    let p = c .place .result in
-    let lg = long (c .before .before .before .before) in
-    rw (le-leb _ _ (c .before .before .if1 .left))
-    (cases (leb n p)
-    (λ t. t ∙ sym (ap not (not-listed (a .self) lg (a .id) p (c .place .ensures) (rw (c .before .listed .ensures) at (leb-true n p t)))))
-    (λ t. t ∙ sym (ap not (is-listed (a .self) lg (a .id) p (c .place .ensures) (rw (c .before .listed .ensures) at (leb-false n p t))))))
+    let s : tie.Start = search needs in
+    let a = s .args in
+    let e : tie.Else1 = search needs in
+    let n = c .before .listed in
+    let p = c .place in
+    rw (le-leb _ _ (e .if1 .left))
+    (cases (leb (n .result) (p .result))
+    (λ t. t ∙ sym (ap not (not-listed (a .self) (long s) (a .id) (p .result) (p .ensures) (rw (n .ensures) at (leb-true (n .result) (p .result) t)))))
+    (λ t. t ∙ sym (ap not (is-listed (a .self) (long s) (a .id) (p .result) (p .ensures) (rw (n .ensures) at (leb-false (n .result) (p .result) t))))))
 
 pub is-full-for-spec : {M : Type 1} → statement M
 is-full-for-spec = tie.close (tie.spec returns (λ c κs. search needs) (λ c κs. search needs) returns-2)

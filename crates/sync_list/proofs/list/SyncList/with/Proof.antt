@@ -17,13 +17,15 @@ use Rattle.sync_list.proofs.ListLaws.{is-listed, not-listed, recorded-k
 long : (c : tie.Start) → length (c .args .self .rows) ≡ rowCount
 long c = search (needs, length-of-mapped)
 
+-- what was handed in, seen from where the new row is made
+abbrev start : tie.After-with → tie.Start
+start c = search needs
+
 new-row : (c : tie.After-with)
-    → c .with .result
-    ≡ withMeasured (c .before .before .before .before .args .channel) (c .before .before .before .before .args .measurement)
-    (rowIn (c .before .before .before .before .args .id) (listed (c .before .before .before .before .args .self)))
+    → c .with .result ≡ withMeasured (start c .args .channel) (start c .args .measurement) (rowIn (start c .args .id) (listed (start c .args .self)))
 new-row c =
-    let a = c .before .before .before .before .args in
-    c .with .ensures ∙ ap (withMeasured (a .channel) (a .measurement)) (c .before .row-of .ensures)
+    let p : tie.After-place = search needs in
+    c .with .ensures ∙ ap (withMeasured (start c .args .channel) (start c .args .measurement)) (rw (p .place .ensures) at (c .before .row-at .ensures))
 
 returns : tie.Need-returns
 returns c =
@@ -32,22 +34,24 @@ returns c =
 
 returns-2 : tie.Need-returns-2
 returns-2 c =
-    let s = c .before .before .before .before .before .before in
-    let p = c .before .before .before .before .before .place in
-    let here = is-listed (s .args .self) (long s) (s .args .id) (p .result) (p .ensures) (rw (c .before .listed .ensures) at (c .if2 .taken)) in
-    recorded-known (s .args .self) (long s) (s .args .id) (s .args .channel) (s .args .measurement) (p .result) (c .before .before .with .result)
-    (p .ensures) (new-row (c .before .before)) (c .before .before .before .before .if1 .left) here
+    let s : tie.Start = search needs in
+    let a = s .args in
+    let e : tie.Else1 = search needs in
+    let w : tie.After-with = search needs in
+    let p = e .before .place in
+    let here = is-listed (a .self) (long s) (a .id) (p .result) (p .ensures) (rw (c .before .listed .ensures) at (c .if2 .taken)) in
+    recorded-known (a .self) (long s) (a .id) (a .channel) (a .measurement) (p .result) (w .with .result) (p .ensures) (new-row w) (e .if1 .left) here
 
 returns-3 : tie.Need-returns-3
 returns-3 c =
-    let s = c .before .before .before .before .before .before in
-    let p = c .before .before .before .before .before .place in
-    let new = not-listed (s .args .self) (long s) (s .args .id) (p .result) (p .ensures) (rw (c .before .listed .ensures) at (c .if2 .left)) in
-    let law : record { rows = set (s .args .self .rows) (p .result) (c .before .before .with .result); count = p .result + 1 }
-    ≡ recorded (s .args .id) (s .args .channel) (s .args .measurement) (s .args .self) =
-    rw add-one
-    (recorded-new (s .args .self) (long s) (s .args .id) (s .args .channel) (s .args .measurement) (p .result) (c .before .before .with .result)
-    (p .ensures) (new-row (c .before .before)) (c .before .before .before .before .if1 .left) new) in
+    let s : tie.Start = search needs in
+    let a = s .args in
+    let e : tie.Else1 = search needs in
+    let w : tie.After-with = search needs in
+    let p = e .before .place in
+    let new = not-listed (a .self) (long s) (a .id) (p .result) (p .ensures) (rw (c .before .listed .ensures) at (c .if2 .left)) in
+    let law : record { rows = set (a .self .rows) (p .result) (w .with .result); count = p .result + 1 } ≡ recorded (a .id) (a .channel) (a .measurement) (a .self) =
+    rw add-one (recorded-new (a .self) (long s) (a .id) (a .channel) (a .measurement) (p .result) (w .with .result) (p .ensures) (new-row w) (e .if1 .left) new) in
     law
 
 pub with-spec : {M : Type 1} → statement M
