@@ -1,10 +1,12 @@
--- The decimal text of a number says that number, in digits, and begins with 0 only where it is that alone.
-use Prim.Native.Nat.{ℕ, zero, suc, _+_, _*_, _-_, _/_, _%_, _<_, _≤_}
-use mathlib.Core.Path.{_≡_, refl}
+-- The decimal text of a number says that number, in digits, begins with 0 only where it is that alone, and is short.
+use Prim.Native.Nat.{ℕ, zero, suc, _+_, _*_, _-_, _/_, _%_, _^_, _<_, _≤_}
+use mathlib.Core.Path.{_≡_, refl, subst}
 use mathlib.Core.List.{List, [], _∷_, _++_}
+use native.Mathlib.Nat.{pow-suc}
 use native.Mathlib.Omega.{arith}
 use lib.Dec.{ltb}
-use borrow.Author.Tests.{ltb-true, ltb-false}
+use lib.ListN.{length, length-append}
+use borrow.Author.Tests.{ltb-true, ltb-false, lt-ltb}
 use Rattle.numbers.proofs.Walk.{cases}
 use Rattle.bench_line.specs.Decimal.{digit, decimalWithin, decimal}
 use Rattle.bench_claims.specs.Decimal.{valueFrom, AreDigits, NoLeadingZero, DecimalExactly}
@@ -73,3 +75,22 @@ plain (suc n) = leads-plain (decimal (suc n)) (within-leads (suc (suc n)) (suc n
 
 pub decimal-exactly : DecimalExactly
 decimal-exactly n = record { says = within-says (suc n) n (omega arith); digits = within-digits (suc n) n; plain = plain n }
+
+-- ---- how long it is
+
+-- a number below a power of ten has no more digits than that power has zeros
+within-short : (k most n : ℕ) → n < 10 ^ suc k → length (decimalWithin most n) ≤ suc k
+unfolding decimalWithin
+within-short zero zero n h = omega arith
+within-short (suc k) zero n h = omega arith
+within-short zero (suc most) n h = rw (lt-ltb n 10 h) (omega arith)
+within-short (suc k) (suc most) n h =
+    let wide : n < 10 ^ suc k * 10 = subst (λ (x : ℕ). n < x) (pow-suc 10 (suc k)) h in
+    let next : length (decimalWithin most (n / 10)) ≤ suc k = within-short k most (n / 10) (omega arith) in
+    let joined = length-append (decimalWithin most (n / 10)) (digit (n % 10) ∷ []) in
+    cases (ltb n 10)
+    (λ t. rw t (omega arith))
+    (λ t. rw (t, joined) (omega arith))
+
+pub decimal-short : (k n : ℕ) → n < 10 ^ suc k → length (decimal n) ≤ suc k
+decimal-short k n h = within-short k (suc n) n h

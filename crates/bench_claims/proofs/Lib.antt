@@ -1,4 +1,3 @@
-pub mod DecimalLaws
 pub mod Decimal
 pub mod Line
 pub mod Witnesses

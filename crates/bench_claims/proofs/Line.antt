@@ -3,10 +3,9 @@ use Prim.Native.Nat.{ℕ, zero, suc, _+_, _^_, _<_, _≤_}
 use mathlib.Core.Path.{_≡_, refl, sym, ap, _∙_}
 use mathlib.Core.Bool.{Bool, true, false, cond, _&&_}
 use mathlib.Core.List.{List, [], _∷_, _++_}
-use native.Mathlib.Nat.{pow-le-pow-right}
 use native.Mathlib.Omega.{arith}
-use lib.Dec.{leb, lit<}
-use lib.ListN.{length, take, drop, replicate, length-append, length-take}
+use lib.Dec.{leb}
+use lib.ListN.{length, take, drop, replicate, length-append}
 use lib.Seq.{length-take-le, take-all}
 use borrow.Author.Tests.{le-ltb, lt-ltb, leb-true, leb-false}
 use Rattle.numbers.proofs.Truth.{both-true}
@@ -15,16 +14,16 @@ use Rattle.refusal.specs.Refusal.{Line, _when_, first}
 use Rattle.refusal.proofs.FirstLaws.{first-skip, first-here}
 use Rattle.division.specs.Bits.{odd, bits, number, bytesBits}
 use Rattle.division.specs.Division.{step, feed, checksum, exor, onlyIf}
-use Rattle.division.proofs.BitsLaws.{number-lt}
 use Rattle.checksum.specs.Channel.{notAChannel, channelOf}
 use Rattle.header.specs.declared.Header.{Header}
-use Rattle.header.specs.Layout.{field, headerIn}
+use Rattle.header.specs.Layout.{headerIn}
+use Rattle.header.proofs.HeaderLaws.{field-small}
 use Rattle.frame.specs.Refusals.{tooShort, badSize}
 use Rattle.frame.specs.Read.{headerRead, refusals, refusalsOn, rule}
 use Rattle.bench_line.specs.Line.{refusalOf, acceptedWord, refusedWord, behindSpace, lineFeed, acceptedLine, refusedLine, lineBy, lineOf}
 use Rattle.bench_line.specs.Decimal.{decimalWithin}
 use Rattle.bench_claims.specs.Line.{LineOne, NoInput, TooLong, FrontDecides, AtMost21, FrontExact, LongestExact}
-use Rattle.bench_claims.proofs.DecimalLaws.{decimal-short}
+use Rattle.bench_claims.proofs.Decimal.{decimal-short}
 
 pub line-one : LineOne
 line-one input before after after′ size size′ s s′ = (s .answers ∙ sym (s′ .answers), s .writes ∙ sym (s′ .writes))
@@ -45,9 +44,7 @@ long-refusal channel bytes h =
 pub too-long : TooLong
 too-long channel bytes h =
     let e = long-refusal channel bytes h in
-    cases (notAChannel channel)
-    (λ t. rw (e, t) refl)
-    (λ t. rw (e, t) refl)
+    cases (notAChannel channel) (λ t. rw (e, t) refl) (λ t. rw (e, t) refl)
 
 pub front-decides : FrontDecides
 front-decides [] = refl
@@ -76,13 +73,6 @@ refusal-within : (input : List ℕ) → refusalOf input ≤ 8
 unfolding noneAbove
 refusal-within [] = omega arith
 refusal-within (channel ∷ bytes) = first-within 8 (refusals channel bytes) refl
-
-field-small : (place width : ℕ) (x : List Bool) → field place width x < 2 ^ width
-field-small place width x =
-    let l = take width (drop place x) in
-    let few : length l ≤ width = omega (arith, length-take width (drop place x)) in
-    let wide : 2 ^ length l ≤ 2 ^ width = pow-le-pow-right {n = 2} (lit< tt) {i = length l} {j = width} few in
-    omega (arith, number-lt l)
 
 accepted-short : (h : Header) → h .id .0 < 2 ^ 11 → h .cycle .0 < 2 ^ 6 → h .words < 2 ^ 7 → length (acceptedLine h) ≤ 21
 accepted-short h i c w =

@@ -1,19 +1,19 @@
 -- The claims about the entry `frame_checksum`, from its statement alone.
 use Prim.Native.Nat.{ℕ}
-use mathlib.Core.Path.{_≡_, refl, sym, ap, _∙_, subst}
+use mathlib.Core.Path.{_≡_, refl, sym, ap, _∙_}
 use mathlib.Core.Bool.{Bool, true, false, not}
 use mathlib.Core.List.{[], _∷_}
 use native.Mathlib.Omega.{arith}
 use lib.Dec.{eqb}
 use borrow.Author.Tests.{ne-eqb}
-use Rattle.refusal.specs.Refusal.{_when_, first, numbered, InOrder}
-use Rattle.refusal.proofs.FirstLaws.{first-in-order}
+use Rattle.refusal.specs.Refusal.{_when_, first, numbered}
+use Rattle.refusal.proofs.FirstLaws.{told-in-order}
 use Rattle.checksum.specs.declared.Channel.the-variants.{A, B}
 use Rattle.checksum.specs.declared.Checksum.{Checksum}
 use Rattle.checksum.specs.declared.Checksum.the-variants.{Value, NotAChannel}
 use Rattle.checksum.specs.Channel.{notAChannel, channelOf}
 use Rattle.checksum.specs.Checksums.{frameChecksum}
-use Rattle.checksum.specs.FrameChecksum.{Told, told, refusals}
+use Rattle.checksum.specs.FrameChecksum.{Told, told}
 use Rattle.checksum_claims.specs.FrameChecksum.{OneAnswer, NumberInOrder, RefusedExactly, OnA, OnB, OnNeither}
 
 -- answers that say the same in 01's numbers are one answer
@@ -28,8 +28,7 @@ one-answer channel bytes r s hr hs = told-inj r s (hr ∙ sym hs)
 
 pub number-in-order : NumberInOrder
 unfolding numbered
-number-in-order channel bytes r h =
-    subst (InOrder (refusals channel)) (sym (ap (λ (t : Told). t .number) h)) (first-in-order (refusals channel) refl)
+number-in-order channel bytes r h = told-in-order _ refl (ap (λ (t : Told). t .number) h)
 
 pub refused-exactly : RefusedExactly
 unfolding first

@@ -4,10 +4,11 @@ use mathlib.Core.Path.{_≡_, refl, sym, ap, ap₂, _∙_, subst}
 use mathlib.Core.Bool.{cond}
 use lib.Dec.{eqb}
 use lib.IntN.{pos}
-use Rattle.refusal.specs.Refusal.{first, numbered, InOrder}
-use Rattle.refusal.proofs.FirstLaws.{first-in-order, if-refused}
+use Rattle.refusal.specs.Refusal.{first, numbered}
+use Rattle.refusal.proofs.FirstLaws.{told-in-order, if-refused}
 use Rattle.slot_claims.specs.Sheet.{FieldTold}
 use Rattle.slot_claims.proofs.Sheet.{sheets}
+use Rattle.frame_claims.proofs.Answers.{one-answer}
 use Rattle.clock.specs.declared.state.Clock.{Clock}
 use Rattle.clock.specs.declared.loading.Loading.{Loading}
 use Rattle.clock.specs.declared.loading.Loading.the-variants as loading
@@ -37,7 +38,7 @@ loading-by (loading.SettingOutOfRange field) = refl
 pub load-one : LoadOne
 load-one settings r s hr hs =
     ap₂ (λ (a : Loading) (c : Clock). record { answer = a; clock = c })
-    (sym (loading-by (r .answer)) ∙ ap loadingBy (hr .answers ∙ sym (hs .answers)) ∙ loading-by (s .answer)) (hr .leaves ∙ sym (hs .leaves))
+    (one-answer load.told loadingBy loading-by (r .answer) (s .answer) (hr .answers) (hs .answers)) (hr .leaves ∙ sym (hs .leaves))
 
 unfoldable pub openingBy : ℕ → CycleOpening
 openingBy n = cond (eqb n 0) opening.Opened (cond (eqb n 23) opening.NotSound (cond (eqb n 11) opening.CycleTooHigh opening.OpenAlready))
@@ -52,7 +53,7 @@ opening-by opening.OpenAlready = refl
 pub open-one : OpenOne
 open-one clock cycle r s hr hs =
     ap₂ (λ (a : CycleOpening) (c : Clock). record { answer = a; clock = c })
-    (sym (opening-by (r .answer)) ∙ ap openingBy (hr .answers ∙ sym (hs .answers)) ∙ opening-by (s .answer)) (hr .leaves ∙ sym (hs .leaves))
+    (one-answer openRule.told openingBy opening-by (r .answer) (s .answer) (hr .answers) (hs .answers)) (hr .leaves ∙ sym (hs .leaves))
 
 unfoldable pub measuringBy : measure.Told → Measuring
 measuringBy t =
@@ -77,7 +78,7 @@ measuring-by measuring.ListFull = refl
 pub measure-one : MeasureOne
 measure-one clock status observed actionPoint r s hr hs =
     ap₂ (λ (a : Measuring) (c : Clock). record { answer = a; clock = c })
-    (sym (measuring-by (r .answer)) ∙ ap measuringBy (hr .answers ∙ sym (hs .answers)) ∙ measuring-by (s .answer)) (hr .leaves ∙ sym (hs .leaves))
+    (one-answer measure.told measuringBy measuring-by (r .answer) (s .answer) (hr .answers) (hs .answers)) (hr .leaves ∙ sym (hs .leaves))
 
 unfoldable pub closingBy : close.Told → Closing
 closingBy t =
@@ -94,31 +95,25 @@ closing-by closing.NotAControl = refl
 pub close-one : CloseOne
 close-one clock offsetControl rateControl r s hr hs =
     ap₂ (λ (a : Closing) (c : Clock). record { answer = a; clock = c })
-    (sym (closing-by (r .answer)) ∙ ap closingBy (hr .answers ∙ sym (hs .answers)) ∙ closing-by (s .answer)) (hr .leaves ∙ sym (hs .leaves))
+    (one-answer close.told closingBy closing-by (r .answer) (s .answer) (hr .answers) (hs .answers)) (hr .leaves ∙ sym (hs .leaves))
 
 -- ---- in order
 
 pub load-in-order : LoadInOrder
 unfolding numbered
-load-in-order settings r h =
-    subst (InOrder (load.loadRefusals settings)) (sym (ap (λ (t : load.Told). t .number) (h .answers))) (first-in-order (load.loadRefusals settings) refl)
+load-in-order settings r h = told-in-order _ refl (ap (λ (t : load.Told). t .number) (h .answers))
 
 pub open-in-order : OpenInOrder
 unfolding numbered
-open-in-order clock cycle r h =
-    subst (InOrder (openRule.openingRefusals clock cycle)) (sym (h .answers)) (first-in-order (openRule.openingRefusals clock cycle) refl)
+open-in-order clock cycle r h = told-in-order _ refl (h .answers)
 
 pub measure-in-order : MeasureInOrder
 unfolding numbered
-measure-in-order clock status observed actionPoint r h =
-    let l = measure.measureRefusals clock status observed actionPoint in
-    subst (InOrder l) (sym (ap (λ (t : measure.Told). t .number) (h .answers))) (first-in-order l refl)
+measure-in-order clock status observed actionPoint r h = told-in-order _ refl (ap (λ (t : measure.Told). t .number) (h .answers))
 
 pub close-in-order : CloseInOrder
 unfolding numbered
-close-in-order clock offsetControl rateControl r h =
-    let l = close.closingRefusals clock offsetControl rateControl in
-    subst (InOrder l) (sym (ap (λ (t : close.Told). t .number) (h .answers))) (first-in-order l refl)
+close-in-order clock offsetControl rateControl r h = told-in-order _ refl (ap (λ (t : close.Told). t .number) (h .answers))
 
 -- ---- the field
 

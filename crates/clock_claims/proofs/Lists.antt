@@ -1,17 +1,16 @@
 -- A list is sound exactly when the measurements that it stands for, and its rows, are as they should be.
 use Prim.Native.Nat.{ℕ, _≤_}
 use mathlib.Core.Path.{_≡_, refl, sym, ap, subst, _∙_}
-use mathlib.Core.Bool.{Bool, true, false, false≢true, not, _||_}
+use mathlib.Core.Bool.{true, false, false≢true, not, _||_}
 use mathlib.Core.List.{List, [], _∷_, _++_, List·Memᴰ, List·Memᴰ·head, List·Memᴰ·tail, List·Memᴰ·cases-cons, List·Memᴰ·not-nil}
-use mathlib.Core.Logic.{_⊎_, inl, inr}
 use native.Mathlib.Omega.{arith}
-use borrow.Author.Tests.{le-leb, le-ltb, ltb-false, not-true}
-use lib.Dec.{leb, ltb}
+use borrow.Author.Tests.{le-leb, not-true}
+use lib.Dec.{leb}
 use lib.ListN.{length, length-map}
 use lib.Seq.{length-take-le}
 use lib.Signed.{leZ}
-use Rattle.numbers.proofs.Truth.{both-true, true-both, neither}
-use Rattle.numbers.proofs.Walk.{cases}
+use Rattle.numbers.proofs.Truth.{both-true, true-both}
+use Rattle.numbers.proofs.Walk.{cases, came}
 use Rattle.checksum.specs.declared.Channel.{Channel}
 use Rattle.checksum.specs.declared.Channel.the-variants.{A, B}
 use Rattle.header.specs.Refusals.{notAnId}
@@ -23,52 +22,29 @@ use Rattle.sync_list.specs.declared.list.SyncList.{SyncList}
 use Rattle.sync_list.specs.Rows.{isMeasured, on}
 use Rattle.sync_list.specs.Lists.{rowCount, listed, idOf, idsOf, isAmong, noneTwice}
 use Rattle.list_soundness.specs.Sound.{isInRange, rowSound, rowsSound, listSound}
-use Rattle.measurements.specs.Measurements.{Taken, taken, standsFor}
+use Rattle.measurements.specs.Measurements.{Taken, taken, standsFor, sameChannel}
+use Rattle.frame_claims.proofs.FrameLaws.{id-range}
 use Rattle.list_soundness.proofs.RangedLaws.{Ranged, row-ranged}
 use Rattle.sync_list.proofs.AmongLaws.{none-twice}
-use Rattle.measurements.proofs.RowLaws.{rows-ids}
+use Rattle.measurements.proofs.RowLaws.{row-measured, rows-ids}
 use Rattle.clock.proofs.SoundLaws.{count-within, rows-good, ids-different}
 use Rattle.clock_claims.specs.Typed.{TypedList}
 use Rattle.clock_claims.specs.Sound.{IsId, IsDeviation, OncePerChannel, GoodList, DifferentRows, GoodRows}
+use Rattle.clock_claims.proofs.TakenLaws.{list-count}
 use Rattle.clock_claims.proofs.Members.{Has, members, has-member, among-member, member-among}
-
--- ---- an ID, a deviation
-
-b-is-not-a : B ≡ A → ⊥
-b-is-not-a e = false≢true (ap isA e)
-  where
-    isA : Channel → Bool
-    isA A = true
-    isA B = false
-
-id-is : (id : ℕ) → notAnId id ≡ false → IsId id
-id-is id e = let h = neither (ltb id 1) (ltb 2047 id) e in (omega (arith, ltb-false id 1 (h .0)), omega (arith, ltb-false 2047 id (h .1)))
-
-is-id : (id : ℕ) → IsId id → notAnId id ≡ false
-is-id id h = rw (le-ltb id 1 (h .0), le-ltb 2047 id (h .1))
 
 -- ---- from the rows to what they stand for
 
 row-good : (rows : List Row) (row : Row) → rowsSound rows ≡ true → List·Memᴰ row rows → rowSound row ≡ true
 unfolding rowsSound
 row-good [] row s mem = absurd (List·Memᴰ·not-nil mem)
-row-good (r ∷ rows) row s mem = by (List·Memᴰ·cases-cons mem) (row-good rows row (both-true (rowSound r) (rowsSound rows) s .1))
-  where
-    by : (row ≡ r) ⊎ List·Memᴰ row rows → (List·Memᴰ row rows → rowSound row ≡ true) → rowSound row ≡ true
-    by (inl q) rest = ap rowSound q ∙ both-true (rowSound r) (rowsSound rows) s .0
-    by (inr m) rest = rest m
+row-good (r ∷ rows) row s mem =
+    let both = both-true (rowSound r) (rowsSound rows) s in
+    came (List·Memᴰ·cases-cons mem) (λ q. ap rowSound q ∙ both .0) (row-good rows row (both .1))
 
 on-ranged : (row : Row) (channel : Channel) → Ranged row → isInRange (on channel row) ≡ true
 on-ranged row A r = r .on-a
 on-ranged row B r = r .on-b
-
--- a row's ID, and that it is measured
-row-id : (row : Row) → rowSound row ≡ true → IsId (idOf row)
-row-id row e = id-is (idOf row) (not-true (notAnId (idOf row)) (both-true (not (notAnId (idOf row))) _ e .0))
-
-row-measured : (row : Row) → rowSound row ≡ true → isMeasured (row .«on_a») || isMeasured (row .«on_b») ≡ true
-row-measured row e =
-    both-true (isMeasured (row .«on_a») || isMeasured (row .«on_b»)) _ (both-true (not (notAnId (idOf row))) _ e .1) .0
 
 has-ranged : (row : Row) (m : Taken) → rowSound row ≡ true → Has row m → IsDeviation (m .deviation)
 has-ranged row m e h =
@@ -79,7 +55,9 @@ module _ (rows : List Row) (s : rowsSound rows ≡ true) where
   taken-ids : (m : Taken) → List·Memᴰ m (standsFor rows) → IsId (m .id)
   taken-ids m mem =
       let h = members rows m mem in
-      subst IsId (sym (h .has .id)) (row-id (h .row) (row-good rows (h .row) s (h .among)))
+      let id = idOf (h .row) in
+      let range = id-range id .0 (not-true _ (both-true (not (notAnId id)) _ (row-good rows (h .row) s (h .among)) .0)) in
+      subst IsId (sym (h .has .id)) (omega (arith, range .0), omega (arith, range .1))
 
   taken-ranged : (m : Taken) → List·Memᴰ m (standsFor rows) → IsDeviation (m .deviation)
   taken-ranged m mem =
@@ -109,11 +87,8 @@ once-row row rows new once = by (row .«on_a») (row .«on_b»)
 
     a-before : (d : Measured) (n : Taken) → List·Memᴰ n (taken (idOf row) B d ++ standsFor rows) → n .id ≡ idOf row → n .channel ≡ A → ⊥
     a-before Nothing n mem e c = other n mem e
-    a-before (Is d) n mem e c = either (List·Memᴰ·cases-cons mem)
-      where
-        either : (n ≡ record { id = idOf row; channel = B; deviation = d .deviation .0 }) ⊎ List·Memᴰ n (standsFor rows) → ⊥
-        either (inl q) = b-is-not-a (sym (ap (λ (m : Taken). m .channel) q) ∙ c)
-        either (inr m) = other n m e
+    a-before (Is d) n mem e c =
+        came (List·Memᴰ·cases-cons mem) (λ q. false≢true (ap (sameChannel A) (sym (ap (λ (m : Taken). m .channel) q) ∙ c))) (λ m. other n m e)
 
     by : (a b : Measured) → OncePerChannel (taken (idOf row) A a ++ (taken (idOf row) B b ++ standsFor rows))
     by Nothing b = b-first b
@@ -170,7 +145,7 @@ row-sound-by : (row : Row) → (row .«on_a» ≡ Nothing → row .«on_b» ≡ 
 row-sound-by row measured ids ranged =
     let one = measured-one (row .«on_a») (row .«on_b») measured in
     let id = id-by-one row (row .«on_a») (row .«on_b») refl refl one ids in
-    true-both (not (notAnId (idOf row))) _ (ap not (is-id (idOf row) id))
+    true-both (not (notAnId (idOf row))) _ (ap not (id-range (idOf row) .1 (omega (arith, id .0), omega (arith, id .1))))
     (true-both (isMeasured (row .«on_a») || isMeasured (row .«on_b»)) _ one
     (true-both (isInRange (row .«on_a»)) (isInRange (row .«on_b»)) (ranged-on row A (row .«on_a») refl ranged) (ranged-on row B (row .«on_b») refl ranged)))
 
@@ -187,12 +162,9 @@ module _ (limit : ℕ) (l : SyncList) (typed : TypedList l) where
   list-good small e =
       let few = count-within limit l e in
       let s = rows-good limit l e in
-      let n = ids-different limit l e in
-      let long : length (listed l) ≡ l .count = length-take-le (l .count) (l .rows) (omega arith) in (
+      let n = ids-different limit l e in (
         record {
-          few =
-              subst (λ (ids : List ℕ). length ids ≤ limit) (sym (rows-ids (listed l) s n))
-              (subst (λ (k : ℕ). k ≤ limit) (sym (length-map (listed l) idOf ∙ long)) few);
+          few = subst (λ (k : ℕ). k ≤ limit) (list-count limit l typed small e) few;
           ids = taken-ids (listed l) s;
           once = taken-once (listed l) n;
           ranged = taken-ranged (listed l) s;

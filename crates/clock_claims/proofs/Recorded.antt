@@ -1,13 +1,13 @@
 -- A measurement that is taken leaves a sound list: there is room for it, its ID is one, and its deviation is in range.
 use Prim.Native.Nat.{ℕ, suc, _≤_, _<_}
-use mathlib.Core.Path.{_≡_, refl, sym, ap, subst, _∙_}
-use mathlib.Core.Bool.{Bool, true, false, false≢true, not, cond}
+use mathlib.Core.Path.{_≡_, sym, ap, subst, _∙_}
+use mathlib.Core.Bool.{true, false, false≢true, not, cond}
 use native.Mathlib.Omega.{arith}
 use borrow.Author.Tests.{le-leb, leb-false, ltb-true, ltb-false, not-true}
 use lib.Dec.{leb, ltb}
 use lib.ListN.{length, length-set, set}
 use Rattle.numbers.proofs.Truth.{both-true, true-both}
-use Rattle.numbers.proofs.Walk.{cases}
+use Rattle.numbers.proofs.Walk.{cases, cases-in}
 use Rattle.checksum.specs.declared.Channel.{Channel}
 use Rattle.header.specs.declared.Cycle.{Cycle}
 use Rattle.header.specs.declared.Slot.{Slot}
@@ -24,13 +24,14 @@ use Rattle.correction.specs.Microtick.{isDeviation}
 use Rattle.sync_list.specs.declared.row.Measurement.{Measurement}
 use Rattle.sync_list.specs.declared.list.SyncList.{SyncList}
 use Rattle.sync_list.specs.Rows.{withMeasured}
-use Rattle.sync_list.specs.Lists.{rowCount, listed, idsOf, isAmong, placeOf as listPlace, isFullFor, recorded, noneTwice, rowIn}
+use Rattle.sync_list.specs.Lists.{rowCount, empty, listed, idsOf, isAmong, placeOf as listPlace, isFullFor, recorded, noneTwice, rowIn}
 use Rattle.list_soundness.specs.Sound.{listSound, rowsSound}
 use Rattle.sync_list.proofs.ListLaws.{ids-long, listed-few}
 use Rattle.sync_list.proofs.PlaceLaws.{among-place, place-most}
 use Rattle.measurements.proofs.AddingLaws.{recorded-count-known, recorded-count-new, recorded-once, recorded-sound}
 use Rattle.clock.specs.declared.state.Clock.{Clock}
 use Rattle.clock.specs.State.{isOdd, listOf, withList}
+use Rattle.clock.specs.Opening.{keepsEven, evenAfter}
 use Rattle.clock.specs.Sound.{sound}
 use Rattle.clock.proofs.SoundLaws.{clauses, sound-by, count-within, rows-good, ids-different}
 use Rattle.measuring.specs.Measuring.{frameOf}
@@ -49,9 +50,6 @@ frame-id s e f = kept-id (placeOf s) (s .kept) (status-clauses s e .keeps) f
 -- ---- room
 
 module _ (limit : ℕ) (l : SyncList) (id : Slot) (typed : TypedList l) (small : limit ≤ rowCount) (good : listSound limit l ≡ true) (room : isFullFor limit id l ≡ false) where
-  few : l .count ≤ limit
-  few = count-within limit l good
-
   -- the ID is listed, or one more is within the limit
   new-within : isAmong (id .0) (idsOf (listed l)) ≡ false → l .count < limit
   new-within new =
@@ -71,16 +69,15 @@ module _ (limit : ℕ) (l : SyncList) (id : Slot) (typed : TypedList l) (small :
       (λ t. let h = new-within t in let n = counted in omega arith)
     where
       counted : length (idsOf (listed l)) ≤ l .count
-      counted = rw (ids-long l typed) (at-most (ltb (l .count) rowCount) refl)
-        where
-          at-most : (b : Bool) → ltb (l .count) rowCount ≡ b → cond b (l .count) rowCount ≤ l .count
-          at-most true e = omega arith
-          at-most false e = ltb-false (l .count) rowCount e
+      counted =
+          rw (ids-long l typed)
+          (cases-in (λ b. cond b (l .count) rowCount ≤ l .count) (ltb (l .count) rowCount) (λ t. omega arith) (ltb-false (l .count) rowCount))
 
   pub recorded-good : (channel : Channel) (m : Measurement) → notAnId (id .0) ≡ false → isDeviation (m .deviation .0) ≡ true
       → listSound limit (recorded id channel m l) ≡ true
   recorded-good channel m is-id ranged =
-      let c : l .count ≤ rowCount = omega (arith, few) in
+      let few = count-within limit l good in
+      let c : l .count ≤ rowCount = omega arith in
       let s = recorded-sound l id channel m typed c has-place (rows-good limit l good) is-id ranged in
       let n = recorded-once l id channel m typed c has-place (ids-different limit l good) in
       let count : recorded id channel m l .count ≤ limit =
@@ -92,49 +89,48 @@ module _ (limit : ℕ) (l : SyncList) (id : Slot) (typed : TypedList l) (small :
 
 -- ---- the clock
 
-module _ (c : Clock) (cycle : Cycle) (l : SyncList) (e : sound c ≡ true) (good : listSound (syncIdLimit (c .settings)) l ≡ true) where
-  pub with-list-sound : sound (withList cycle l c) ≡ true
-  with-list-sound =
+-- what holds of both lists holds of a cycle's, and of both with another list for it
+module _ (P : SyncList → Type 0) (c : Clock) (cycle : Cycle) (even : P (c .even)) (odd : P (c .odd)) where
+  pub of-list : P (listOf cycle c)
+  of-list = cases-in (λ b. P (cond b (c .odd) (c .even))) (isOdd cycle) (λ t. odd) (λ t. even)
+
+  module _ {l : SyncList} (new : P l) where
+    pub of-even : P (withList cycle l c .even)
+    of-even = cases-in (λ b. P (cond b (c .even) l)) (isOdd cycle) (λ t. even) (λ t. new)
+
+    pub of-odd : P (withList cycle l c .odd)
+    of-odd = cases-in (λ b. P (cond b l (c .odd))) (isOdd cycle) (λ t. new) (λ t. odd)
+
+-- and of the even list, where it is kept or emptied
+pub of-even-after : (P : SyncList → Type 0) (c : Clock) (cycle : Cycle) → P (c .even) → P empty → P (evenAfter c cycle)
+of-even-after P c cycle kept none = cases-in (λ b. P (cond b (c .even) empty)) (keepsEven c cycle) (λ t. kept) (λ t. none)
+
+module _ (c : Clock) (cycle : Cycle) (e : sound c ≡ true) where
+  abbrev Good : SyncList → Type 0
+  Good l = listSound (syncIdLimit (c .settings)) l ≡ true
+
+  pub list-of-sound : Good (listOf cycle c)
+  list-of-sound = of-list Good c cycle (clauses c e .even) (clauses c e .odd)
+
+  pub with-list-sound : (l : SyncList) → Good l → sound (withList cycle l c) ≡ true
+  with-list-sound l good =
       let k = clauses c e in
       sound-by (withList cycle l c)
       (record {
         settings = k .settings;
         opened = k .opened;
         last-closed = k .last-closed;
-        even =
-            cases (isOdd cycle)
-            (λ t. ap (λ (b : Bool). listSound (syncIdLimit (c .settings)) (cond b (c .even) l)) t ∙ k .even)
-            (λ t. ap (λ (b : Bool). listSound (syncIdLimit (c .settings)) (cond b (c .even) l)) t ∙ good);
-        odd =
-            cases (isOdd cycle)
-            (λ t. ap (λ (b : Bool). listSound (syncIdLimit (c .settings)) (cond b l (c .odd))) t ∙ good)
-            (λ t. ap (λ (b : Bool). listSound (syncIdLimit (c .settings)) (cond b l (c .odd))) t ∙ k .odd);
+        even = of-even Good c cycle (k .even) (k .odd) good;
+        odd = of-odd Good c cycle (k .even) (k .odd) good;
         rate = k .rate;
       })
-
-pub list-of-sound : (c : Clock) (cycle : Cycle) → sound c ≡ true → listSound (syncIdLimit (c .settings)) (listOf cycle c) ≡ true
-list-of-sound c cycle e =
-    cases (isOdd cycle)
-    (λ t. ap (λ (b : Bool). listSound (syncIdLimit (c .settings)) (cond b (c .odd) (c .even))) t ∙ clauses c e .odd)
-    (λ t. ap (λ (b : Bool). listSound (syncIdLimit (c .settings)) (cond b (c .odd) (c .even))) t ∙ clauses c e .even)
-
-pub list-of-typed : (c : Clock) (cycle : Cycle) → TypedList (c .even) → TypedList (c .odd) → TypedList (listOf cycle c)
-list-of-typed c cycle te to =
-    cases (isOdd cycle)
-    (λ t. ap (λ (b : Bool). length (cond b (c .odd) (c .even) .rows)) t ∙ to)
-    (λ t. ap (λ (b : Bool). length (cond b (c .odd) (c .even) .rows)) t ∙ te)
 
 -- ---- fifteen rows stay fifteen
 
 pub recorded-typed : (id : Slot) (channel : Channel) (m : Measurement) (l : SyncList) → TypedList l → TypedList (recorded id channel m l)
 recorded-typed id channel m l typed =
-    cases (leb rowCount (listPlace id l))
-    (λ t. ap (λ (b : Bool). length (cond b l (placed) .rows)) t ∙ typed)
-    (λ t. ap (λ (b : Bool). length (cond b l (placed) .rows)) t ∙ length-set (l .rows) (listPlace id l) (withMeasured channel m (rowIn id (listed l))) ∙ typed)
-  where
-    placed : SyncList
-    placed =
-        record {
-          rows = set (l .rows) (listPlace id l) (withMeasured channel m (rowIn id (listed l)));
-          count = cond (isAmong (id .0) (idsOf (listed l))) (l .count) (suc (listPlace id l));
-        }
+    let row = withMeasured channel m (rowIn id (listed l)) in
+    let count = cond (isAmong (id .0) (idsOf (listed l))) (l .count) (suc (listPlace id l)) in
+    cases-in (λ b. TypedList (cond b l (record { rows = set (l .rows) (listPlace id l) row; count = count }))) (leb rowCount (listPlace id l))
+    (λ t. typed)
+    (λ t. length-set (l .rows) (listPlace id l) row ∙ typed)

@@ -1,16 +1,18 @@
 -- What closing reports of a sound state, over the measurements that its lists stand for, in whatever order.
 use mathlib.Core.Path.{_≡_, refl, sym, ap, subst, _∙_}
-use mathlib.Core.Bool.{Bool, true, false, not, cond}
+use mathlib.Core.Bool.{Bool, true, not, cond}
 use borrow.Author.Tests.{not-false}
 use mathlib.Core.List.{List}
 use lib.Dec.{lit<}
 use lib.IntN.{ℤ}
 use lib.ListN.{length}
+use Rattle.numbers.proofs.Walk.{cases-in}
 use Rattle.midpoint.specs.Order.{Permuted}
 use Rattle.midpoint.proofs.OrderLaws.{permuted-length, permuted-sym}
 use Rattle.refusal.specs.Refusal.{first}
 use Rattle.refusal.proofs.FirstLaws.{first-zero, if-accepted}
 use Rattle.settings.specs.Sheet.{syncIdLimit, offsetLimit, rateLimit, driftDamping}
+use Rattle.correction.specs.declared.term.Term.{Term}
 use Rattle.correction.specs.Terms.{offsetTerm, rateTerm}
 use Rattle.sync_list.specs.Lists.{listed}
 use Rattle.list_values.specs.Values.{rateValues}
@@ -26,7 +28,7 @@ use Rattle.closing.specs.Closing as closing
 use Rattle.closing.specs.Closing.{closingRefusals, storedTerm, offsetFound, rateFound, reportWith, reportOf, noReport}
 use Rattle.clock_claims.specs.Typed.{TypedList}
 use Rattle.clock_claims.specs.Reports.{ReportedOver}
-use Rattle.clock_claims.proofs.Recorded.{list-of-sound, list-of-typed}
+use Rattle.clock_claims.proofs.Recorded.{of-list, list-of-sound}
 use Rattle.clock_claims.proofs.TakenLaws.{list-count}
 
 module _ (c : Clock) (good : sound c ≡ true) where
@@ -47,41 +49,37 @@ module _ (c : Clock) (good : sound c ≡ true) where
       (sym (rows-offset (listed l) (rows-good limit l list-good) (ids-different limit l list-good)))
       ∙ offset-permuted p (c .settings .«sends_sync») (offsetLimit (c .settings))
 
+  abbrev rateBy : List ℤ → Term
+  rateBy values = rateTerm values (c .settings .«sends_sync») (c .rate .0) (driftDamping (c .settings)) (rateLimit (c .settings))
+
   -- the rate, over both lists in an odd cycle
   pub rate-over : (ms : List Taken) → Permuted (standsFor (listed (listOf (currentCycle c) c))) ms
       → (before : List Taken) → (isOdd (currentCycle c) ≡ true → Permuted (standsFor (listed (c .even))) before)
-      → rateFound c
-      ≡ cond (isOdd (currentCycle c))
-      (rateTerm (rateValuesOf ms before) (c .settings .«sends_sync») (c .rate .0) (driftDamping (c .settings)) (rateLimit (c .settings)))
-      (storedTerm (c .rate .0))
-  rate-over ms p before q = by (isOdd (currentCycle c)) refl
-    where
-      by : (b : Bool) → isOdd (currentCycle c) ≡ b
-          → cond b (rateTerm (rateValues (listed (c .odd)) (listed (c .even))) (c .settings .«sends_sync») (c .rate .0) (driftDamping (c .settings)) (rateLimit (c .settings)))
-          (storedTerm (c .rate .0))
-          ≡ cond b (rateTerm (rateValuesOf ms before) (c .settings .«sends_sync») (c .rate .0) (driftDamping (c .settings)) (rateLimit (c .settings)))
-          (storedTerm (c .rate .0))
-      by false t = refl
-      by true t =
-          let limit = syncIdLimit (c .settings) in
-          let even-good = clauses c good .even in
-          let odd-good = clauses c good .odd in
-          let odd : Permuted (standsFor (listed (c .odd))) ms = subst (λ (k : Bool). Permuted (standsFor (listed (cond k (c .odd) (c .even)))) ms) t p in
-          ap (λ (v : List ℤ). rateTerm v (c .settings .«sends_sync») (c .rate .0) (driftDamping (c .settings)) (rateLimit (c .settings)))
-          (sym
-          (rows-rate (listed (c .odd)) (listed (c .even)) (rows-good limit (c .odd) odd-good) (ids-different limit (c .odd) odd-good)
-          (ids-different limit (c .even) even-good)))
-          ∙ rate-permuted odd (q t) (c .settings .«sends_sync») (c .rate .0) (driftDamping (c .settings)) (rateLimit (c .settings))
+      → rateFound c ≡ cond (isOdd (currentCycle c)) (rateBy (rateValuesOf ms before)) (storedTerm (c .rate .0))
+  rate-over ms p before q =
+      let limit = syncIdLimit (c .settings) in
+      let stored = storedTerm (c .rate .0) in
+      cases-in (λ b. cond b (rateBy (rateValues (listed (c .odd)) (listed (c .even)))) stored ≡ cond b (rateBy (rateValuesOf ms before)) stored)
+      (isOdd (currentCycle c))
+      (λ t.
+      let even-good = clauses c good .even in
+      let odd-good = clauses c good .odd in
+      let odd : Permuted (standsFor (listed (c .odd))) ms = subst (λ (k : Bool). Permuted (standsFor (listed (cond k (c .odd) (c .even)))) ms) t p in
+      ap rateBy
+      (sym
+      (rows-rate (listed (c .odd)) (listed (c .even)) (rows-good limit (c .odd) odd-good) (ids-different limit (c .odd) odd-good)
+      (ids-different limit (c .even) even-good)))
+      ∙ rate-permuted odd (q t) (c .settings .«sends_sync») (c .rate .0) (driftDamping (c .settings)) (rateLimit (c .settings)))
+      (λ t. refl)
 
 -- ---- the claim
 
 pub reported-over : ReportedOver
 reported-over c offsetControl rateControl r typed h e ms before p q =
     let zero : first (closingRefusals c offsetControl rateControl) ≡ 0 = sym (ap (λ (t : closing.Told). t .number) (h .answers)) ∙ e in
-    let z23 = first-zero 22 (not (sound c)) _ zero in
-    let good : sound c ≡ true = not-false (sound c) (z23 .0) in
+    let good : sound c ≡ true = not-false (sound c) (first-zero 22 (not (sound c)) _ zero .0) in
     let list = permuted-sym p in
-    let count = count-over c good (list-of-typed c (currentCycle c) (typed .even) (typed .odd)) ms list in
+    let count = count-over c good (of-list TypedList c (currentCycle c) (typed .even) (typed .odd)) ms list in
     let offset = offset-over c good ms list in
     let rate = rate-over c good ms list before (λ t. permuted-sym q) in
     ap (λ (t : closing.Told). t .report) (h .answers)

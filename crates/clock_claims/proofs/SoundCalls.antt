@@ -1,16 +1,14 @@
 -- Every accepted call returns a sound state.
 use Prim.Native.Nat.{ℕ}
 use mathlib.Core.Path.{_≡_, refl, sym, ap, _∙_}
-use mathlib.Core.Bool.{Bool, true, false, false≢true, not, _&&_, _||_, cond}
-use mathlib.Core.List.{[]}
+use mathlib.Core.Bool.{true, false, false≢true, not, _&&_}
 use native.Mathlib.Omega.{arith}
 use borrow.Author.Tests.{le-leb, not-false}
 use lib.Dec.{leb, lit<}
 use lib.IntN.{pos}
 use Rattle.numbers.proofs.Truth.{both-true, true-both, neither}
-use Rattle.numbers.proofs.Walk.{cases}
-use Rattle.refusal.specs.Refusal.{first}
-use Rattle.refusal.proofs.FirstLaws.{first-zero, if-accepted}
+use Rattle.refusal.specs.Refusal.{first, numbered}
+use Rattle.refusal.proofs.FirstLaws.{first-zero, if-accepted, not-refused}
 use Rattle.header.specs.declared.Cycle.{Cycle}
 use Rattle.header.specs.Refusals.{cycleTooHigh}
 use Rattle.settings.specs.declared.Settings.{Settings}
@@ -28,16 +26,16 @@ use Rattle.clock.specs.declared.state.CycleOrNone.the-variants.{NoCycle, Is}
 use Rattle.clock.specs.State.{fresh, isThere, cycleIn, currentCycle, listOf}
 use Rattle.clock.specs.Sound.{cycleSound, sound}
 use Rattle.clock.specs.Loading as loading
-use Rattle.clock.specs.Opening.{openingRefusals, keepsEven, openedOn}
+use Rattle.clock.specs.Opening.{openingRefusals, openedOn}
 use Rattle.clock.proofs.SoundLaws.{clauses, sound-by, near-inside, at-most}
 use Rattle.measuring.specs.Measuring as measuring
-use Rattle.measuring.specs.Measuring.{frameOf, noSyncFrame, otherCycle, measuredAlready, listFull, deviationBy, measureRefusals, measuredOn}
+use Rattle.measuring.specs.Measuring.{frameOf, noSyncFrame, deviationBy, measureRefusals, measuredOn}
 use Rattle.measuring.proofs.DeviationLaws.{deviation-ranged}
 use Rattle.closing.specs.Closing as closing
 use Rattle.closing.specs.Closing.{closingRefusals, rateFound, closedOn}
 use Rattle.closing.proofs.RangeLaws.{zero-near, found-near}
 use Rattle.clock_claims.specs.Typed.{TypedList}
-use Rattle.clock_claims.proofs.Recorded.{frame-id, recorded-good, with-list-sound, list-of-sound, list-of-typed}
+use Rattle.clock_claims.proofs.Recorded.{frame-id, recorded-good, of-list, of-even-after, with-list-sound, list-of-sound}
 use Rattle.clock_claims.specs.Sound.{LoadedSound, OpenedSound, MeasuredSound, ClosedSound}
 
 -- ---- loading
@@ -61,8 +59,7 @@ fresh-sound s e =
 pub loaded-sound : LoadedSound
 loaded-sound settings r h e =
     let zero : first (loading.loadRefusals settings) ≡ 0 = sym (ap (λ (t : loading.Told). t .number) (h .answers)) ∙ e in
-    let good : outOfRange settings ≡ false = first-zero 16 (outOfRange settings) [] zero .0 in
-    ap sound (h .leaves ∙ if-accepted _ (fresh settings) _ zero) ∙ fresh-sound settings good
+    ap sound (h .leaves ∙ if-accepted _ (fresh settings) _ zero) ∙ fresh-sound settings (first-zero 16 (outOfRange settings) _ zero .0)
 
 -- ---- opening
 
@@ -74,21 +71,17 @@ opened-on-sound c cycle e low =
       settings = k .settings;
       opened = ap not low;
       last-closed = k .last-closed;
-      even =
-          cases (keepsEven c cycle)
-          (λ t. ap (λ (b : Bool). listSound (syncIdLimit (c .settings)) (cond b (c .even) empty)) t ∙ k .even)
-          (λ t. ap (λ (b : Bool). listSound (syncIdLimit (c .settings)) (cond b (c .even) empty)) t ∙ empty-sound (syncIdLimit (c .settings)));
+      even = of-even-after (λ l. listSound (syncIdLimit (c .settings)) l ≡ true) c cycle (k .even) (empty-sound (syncIdLimit (c .settings)));
       odd = empty-sound (syncIdLimit (c .settings));
       rate = k .rate;
     })
 
 pub opened-sound : OpenedSound
+unfolding numbered
 opened-sound clock cycle r h e =
     let zero : first (openingRefusals clock cycle) ≡ 0 = sym (h .answers) ∙ e in
-    let z23 = first-zero 22 (not (sound clock)) _ zero in
-    let z11 = first-zero 10 (cycleTooHigh (cycle .0)) _ (z23 .1) in
-    ap sound (h .leaves ∙ if-accepted _ (openedOn clock cycle) clock zero)
-    ∙ opened-on-sound clock cycle (not-false (sound clock) (z23 .0)) (z11 .0)
+    let passed = not-refused (openingRefusals clock cycle) refl zero in
+    ap sound (h .leaves ∙ if-accepted _ (openedOn clock cycle) clock zero) ∙ opened-on-sound clock cycle (not-false (sound clock) (passed 23)) (passed 11)
 
 -- ---- measuring
 
@@ -97,23 +90,18 @@ has-frame s e = not-false (isFrame (s .kept)) (neither (not (isFrame (s .kept)))
 
 module _ (c : Clock) (status : Status) (observed actionPoint : Microtick) (even : TypedList (c .even)) (odd : TypedList (c .odd)) where
   pub measured-on-sound : first (measureRefusals c status observed actionPoint) ≡ 0 → sound (measuredOn c status (deviationBy c status observed actionPoint)) ≡ true
+  unfolding numbered
   measured-on-sound zero =
-      let z23 = first-zero 22 (not (sound c && slot.sound status)) _ zero in
-      let z18 = first-zero 17 (not (isThere (c .opened))) _ (z23 .1) in
-      let z14 = first-zero 13 (aboveTimeLimit (observed .0) || aboveTimeLimit (actionPoint .0)) _ (z18 .1) in
-      let z20 = first-zero 19 (noSyncFrame status) _ (z14 .1) in
-      let z22 = first-zero 21 (otherCycle c status) _ (z20 .1) in
-      let z16 = first-zero 15 (measuredAlready c status) _ (z22 .1) in
-      let z15 = first-zero 14 (listFull c status) _ (z16 .1) in
-      let both = both-true (sound c) (slot.sound status) (not-false (sound c && slot.sound status) (z23 .0)) in
-      let times = neither (aboveTimeLimit (observed .0)) (aboveTimeLimit (actionPoint .0)) (z14 .0) in
+      let passed = not-refused (measureRefusals c status observed actionPoint) refl zero in
+      let both = both-true (sound c) (slot.sound status) (not-false (sound c && slot.sound status) (passed 23)) in
+      let times = neither (aboveTimeLimit (observed .0)) (aboveTimeLimit (actionPoint .0)) (passed 14) in
       let k = clauses c (both .0) in
       let l = listOf (currentCycle c) c in
       let d = deviationBy c status observed actionPoint in
-      with-list-sound c (currentCycle c) (recorded (frameOf status .id) (status .channel) (record { deviation = record { 0 = d } }) l) (both .0)
-      (recorded-good (syncIdLimit (c .settings)) l (frameOf status .id) (list-of-typed c (currentCycle c) even odd) (at-most (c .settings) (k .settings) 4 (lit< tt))
-      (list-of-sound c (currentCycle c) (both .0)) (z15 .0) (status .channel) (record { deviation = record { 0 = d } })
-      (frame-id status (both .1) (has-frame status (z20 .0)))
+      with-list-sound c (currentCycle c) (both .0) (recorded (frameOf status .id) (status .channel) (record { deviation = record { 0 = d } }) l)
+      (recorded-good (syncIdLimit (c .settings)) l (frameOf status .id) (of-list TypedList c (currentCycle c) even odd) (at-most (c .settings) (k .settings) 4 (lit< tt))
+      (list-of-sound c (currentCycle c) (both .0)) (passed 15) (status .channel) (record { deviation = record { 0 = d } })
+      (frame-id status (both .1) (has-frame status (passed 20)))
       (deviation-ranged c status observed actionPoint (k .settings) (times .0) (times .1)))
 
 pub measured-sound : MeasuredSound
@@ -142,9 +130,9 @@ closed-on-sound c e there =
     })
 
 pub closed-sound : ClosedSound
+unfolding numbered
 closed-sound clock offsetControl rateControl r h e =
     let zero : first (closingRefusals clock offsetControl rateControl) ≡ 0 = sym (ap (λ (t : closing.Told). t .number) (h .answers)) ∙ e in
-    let z23 = first-zero 22 (not (sound clock)) _ zero in
-    let z18 = first-zero 17 (not (isThere (clock .opened))) _ (z23 .1) in
+    let passed = not-refused (closingRefusals clock offsetControl rateControl) refl zero in
     ap sound (h .leaves ∙ if-accepted _ (closedOn clock) clock zero)
-    ∙ closed-on-sound clock (not-false (sound clock) (z23 .0)) (not-false (isThere (clock .opened)) (z18 .0))
+    ∙ closed-on-sound clock (not-false (sound clock) (passed 23)) (not-false (isThere (clock .opened)) (passed 18))

@@ -1,14 +1,15 @@
 -- Every state that a rule gives has arrays as long as its type says.
-use mathlib.Core.Path.{refl, ap, _∙_}
-use mathlib.Core.Bool.{Bool, cond}
-use lib.ListN.{length}
-use Rattle.numbers.proofs.Walk.{cases}
-use Rattle.sync_list.specs.Lists.{empty, recorded}
-use Rattle.clock.specs.State.{isOdd, currentCycle, listOf}
-use Rattle.clock.specs.Opening.{keepsEven}
+use mathlib.Core.Path.{refl}
+use Rattle.slot_claims.specs.Sheet.{TypedSettings}
+use Rattle.clock.specs.declared.state.Clock.{Clock}
+use Rattle.clock.specs.State.{currentCycle, listOf}
 use Rattle.measuring.specs.Measuring.{frameOf}
-use Rattle.clock_claims.specs.Typed.{TypedList, TypedAgain}
-use Rattle.clock_claims.proofs.Recorded.{list-of-typed, recorded-typed}
+use Rattle.clock_claims.specs.Typed.{TypedList, TypedClock, TypedAgain}
+use Rattle.clock_claims.proofs.Recorded.{of-list, of-even, of-odd, of-even-after, recorded-typed}
+
+-- what `search` finds of a state's arrays, together
+pub typed-by : (c : Clock) → TypedSettings (c .settings) → TypedList (c .even) → TypedList (c .odd) → TypedClock c
+typed-by c settings even odd = record { settings = settings; even = even; odd = odd }
 
 pub typed-again : TypedAgain
 typed-again =
@@ -19,28 +20,18 @@ typed-again =
           λ c cycle typed.
           record {
             settings = typed .settings;
-            even =
-                cases (keepsEven c cycle)
-                (λ t. ap (λ (b : Bool). length (cond b (c .even) empty .rows)) t ∙ typed .even)
-                (λ t. ap (λ (b : Bool). length (cond b (c .even) empty .rows)) t);
+            even = of-even-after TypedList c cycle (typed .even) refl;
             odd = refl;
           };
       measured =
           λ c status d typed.
           let l = listOf (currentCycle c) c in
-          let rec = recorded (frameOf status .id) (status .channel) (record { deviation = record { 0 = d } }) l in
-          let rows : TypedList rec =
-          recorded-typed (frameOf status .id) (status .channel) (record { deviation = record { 0 = d } }) l (list-of-typed c (currentCycle c) (typed .even) (typed .odd)) in
+          let own : TypedList l = of-list TypedList c (currentCycle c) (typed .even) (typed .odd) in
+          let rows = recorded-typed (frameOf status .id) (status .channel) (record { deviation = record { 0 = d } }) l own in
           record {
             settings = typed .settings;
-            even =
-                cases (isOdd (currentCycle c))
-                (λ t. ap (λ (b : Bool). length (cond b (c .even) rec .rows)) t ∙ typed .even)
-                (λ t. ap (λ (b : Bool). length (cond b (c .even) rec .rows)) t ∙ rows);
-            odd =
-                cases (isOdd (currentCycle c))
-                (λ t. ap (λ (b : Bool). length (cond b rec (c .odd) .rows)) t ∙ rows)
-                (λ t. ap (λ (b : Bool). length (cond b rec (c .odd) .rows)) t ∙ typed .odd);
+            even = of-even TypedList c (currentCycle c) (typed .even) (typed .odd) rows;
+            odd = of-odd TypedList c (currentCycle c) (typed .even) (typed .odd) rows;
           };
       closed = λ c typed. record { settings = typed .settings; even = typed .even; odd = typed .odd };
     }

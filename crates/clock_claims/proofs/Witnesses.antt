@@ -1,8 +1,6 @@
 -- The witnesses' statements, from the statements of the entries.
-use Prim.Native.Nat.{ℕ, _%_}
 use mathlib.Core.Path.{_≡_, refl, sym, ap, subst, _∙_}
 use mathlib.Core.List.{List, [], _∷_, _++_, cons-ne-nil}
-use borrow.Author.Tests.{eq-eqb, ne-eqb}
 use lib.IntN.{ℤ, pos}
 use Rattle.refusal.specs.Refusal.{first}
 use Rattle.refusal.proofs.FirstLaws.{if-accepted}
@@ -26,9 +24,9 @@ use Rattle.closing.specs.declared.CycleClosed.{CycleClosed}
 use Rattle.closing.specs.Closing as closing
 use Rattle.closing.specs.Closing.{CloseSays}
 use Rattle.clock_claims.specs.Typed.{TypedClock}
-use Rattle.clock_claims.specs.History.{Call, load, openCycle, measure, closeCycle, Answer, closed, nothing, next, answer, pastOf, answersOf, Past}
+use Rattle.clock_claims.specs.History.{Call, closeCycle, Answer, closed, nothing, next, answer, pastOf, answersOf, Past}
 use Rattle.clock_claims.specs.Histories.{Makes, MakesAll, Holds}
-use Rattle.clock_claims.specs.Witnesses.{LoadedWell, OpenedWell, MeasuredWell, ClosedWell, firstIn, secondIn, controlOf, callOf, MadeBy, Played, ClosedAfter}
+use Rattle.clock_claims.specs.Witnesses.{LoadedWell, OpenedWell, MeasuredWell, ClosedWell, MadeBy, Played, ClosedAfter}
 use Rattle.clock_claims.proofs.Answers.{load-in-order, open-in-order, measure-in-order, close-in-order, load-field, load-refused, open-refused, measure-refused, close-refused}
 use Rattle.clock_claims.proofs.Histories.{histories, load-fresh}
 use Rattle.clock_claims.proofs.Reports.{reported-over}
@@ -139,28 +137,3 @@ closed-after-well calls m offsetControl rateControl r (answers, makes) h =
       answers = sym (last-more a a answers) ∙ ap (lastOf a) (x .0) ∙ last-answer a nothing calls call;
       holds = subst (λ (p : Past). Holds p (r .clock)) (past-more nothing calls call) (x .1);
     }
-
--- ---- a call from its number
-
-module _ (sheet otherSheet : Settings) (status otherStatus : Status) (number : ℕ) where
-  pub call-0 : number % 8 ≡ 0 → callOf sheet otherSheet status otherStatus number ≡ load sheet
-  call-0 e = rw (eq-eqb (number % 8) 0 e)
-
-  pub call-1 : (number % 8 ≡ 0 → ⊥) → number % 8 ≡ 1 → callOf sheet otherSheet status otherStatus number ≡ load otherSheet
-  call-1 n0 e = rw (ne-eqb (number % 8) 0 n0, eq-eqb (number % 8) 1 e)
-
-  module _ (n0 : number % 8 ≡ 0 → ⊥) (n1 : number % 8 ≡ 1 → ⊥) where
-    pub call-2 : number % 8 ≡ 2 → callOf sheet otherSheet status otherStatus number ≡ openCycle (record { 0 = firstIn number % 256 })
-    call-2 e = rw (ne-eqb (number % 8) 0 n0, ne-eqb (number % 8) 1 n1, eq-eqb (number % 8) 2 e)
-
-    module _ (n2 : number % 8 ≡ 2 → ⊥) where
-      pub call-3 : number % 8 ≡ 3 → callOf sheet otherSheet status otherStatus number ≡ measure status (record { 0 = firstIn number }) (record { 0 = secondIn number })
-      call-3 e = rw (ne-eqb (number % 8) 0 n0, ne-eqb (number % 8) 1 n1, ne-eqb (number % 8) 2 n2, eq-eqb (number % 8) 3 e)
-
-      pub call-4 : (number % 8 ≡ 3 → ⊥) → number % 8 ≡ 4
-          → callOf sheet otherSheet status otherStatus number ≡ measure otherStatus (record { 0 = firstIn number }) (record { 0 = secondIn number })
-      call-4 n3 e = rw (ne-eqb (number % 8) 0 n0, ne-eqb (number % 8) 1 n1, ne-eqb (number % 8) 2 n2, ne-eqb (number % 8) 3 n3, eq-eqb (number % 8) 4 e)
-
-      pub call-5 : (number % 8 ≡ 3 → ⊥) → (number % 8 ≡ 4 → ⊥)
-          → callOf sheet otherSheet status otherStatus number ≡ closeCycle (controlOf (firstIn number)) (controlOf (secondIn number))
-      call-5 n3 n4 = rw (ne-eqb (number % 8) 0 n0, ne-eqb (number % 8) 1 n1, ne-eqb (number % 8) 2 n2, ne-eqb (number % 8) 3 n3, ne-eqb (number % 8) 4 n4)

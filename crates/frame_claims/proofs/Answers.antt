@@ -1,12 +1,10 @@
 -- The claims about the answers, from the statements alone.
-use Prim.Native.Nat.{ℕ, _+_}
-use mathlib.Core.Path.{_≡_, refl, sym, ap, _∙_, subst}
-use mathlib.Core.List.{List, [], _∷_}
-use lib.ListN.{length, getD}
-use Rattle.refusal.specs.Refusal.{ifAccepted, numbered, InOrder}
-use Rattle.refusal.proofs.FirstLaws.{first-in-order, if-refused}
+use mathlib.Core.Path.{_≡_, refl, sym, ap, _∙_}
+use mathlib.Core.List.{[], _∷_}
+use lib.ListN.{getD}
+use Rattle.refusal.specs.Refusal.{numbered}
+use Rattle.refusal.proofs.FirstLaws.{told-in-order, if-refused}
 use Rattle.checksum.specs.Channel.{channelOf}
-use Rattle.header.specs.declared.Fields.{Fields}
 use Rattle.frame.specs.declared.Reading.{Reading}
 use Rattle.frame.specs.declared.Reading.the-variants as reading
 use Rattle.writing.specs.declared.Writing.{Writing}
@@ -19,6 +17,9 @@ use Rattle.frame_claims.specs.Answers.{ReadOne, ReadOnOne, PayloadOne, W
 -- ---- one answer
 
 -- a number names one case, so answers that say the same in 01's numbers are one answer
+pub one-answer : {A T : Type 0} (told : A → T) (by : T → A) → ((a : A) → by (told a) ≡ a) → {t : T} (a b : A) → told a ≡ t → told b ≡ t → a ≡ b
+one-answer told by back a b ea eb = sym (back a) ∙ ap by (ea ∙ sym eb) ∙ back b
+
 readingBy : read.Told → Reading
 readingBy t =
     getD
@@ -38,14 +39,11 @@ reading-by reading.IdZero = refl
 reading-by reading.StartupWithoutSync = refl
 reading-by reading.FrameChecksumDiffers = refl
 
-one-reading : (t : read.Told) (r s : Reading) → read.told r ≡ t → read.told s ≡ t → r ≡ s
-one-reading t r s hr hs = sym (reading-by r) ∙ ap readingBy (hr ∙ sym hs) ∙ reading-by s
-
 pub read-one : ReadOne
-read-one channel bytes r s hr hs = one-reading _ r s hr hs
+read-one channel bytes = one-answer read.told readingBy reading-by
 
 pub read-on-one : ReadOnOne
-read-on-one channel bytes r s hr hs = one-reading _ r s hr hs
+read-on-one channel bytes = one-answer read.told readingBy reading-by
 
 pub payload-one : PayloadOne
 payload-one channel bytes place p q at at′ hp lp hq lq = (hp ∙ sym hq, lp ∙ sym lq)
@@ -71,29 +69,17 @@ writing-by writing.OutputTooShort = refl
 
 pub write-one : WriteOne
 write-one channel fields payload before after after′ r s hr hs =
-    (sym (writing-by r) ∙ ap writingBy (hr .answers ∙ sym (hs .answers)) ∙ writing-by s, hr .writes ∙ sym (hs .writes))
-
--- nothing is refused: the answer is the frame's size
-pub written-answer : (channel : ℕ) (fields : Fields) (payload before after : List ℕ) (w : Writing)
-    → write.WriteSays channel fields payload before after w → write.refusal channel fields payload before ≡ 0
-    → w ≡ writing.Written (8 + length payload)
-unfolding writingBy
-written-answer channel fields payload before after w says none =
-    sym (writing-by w)
-    ∙ ap writingBy (says .answers ∙ ap (λ (k : ℕ). record { number = k; length = ifAccepted k (8 + length payload) 0 }) none)
+    (one-answer write.told writingBy writing-by r s (hr .answers) (hs .answers), hr .writes ∙ sym (hs .writes))
 
 -- ---- in order
 
 pub read-in-order : ReadInOrder
 unfolding numbered
-read-in-order channel bytes r h =
-    subst (InOrder (read.refusals channel bytes)) (sym (ap (λ (t : read.Told). t .number) h)) (first-in-order (read.refusals channel bytes) refl)
+read-in-order channel bytes r h = told-in-order _ refl (ap (λ (t : read.Told). t .number) h)
 
 pub write-in-order : WriteInOrder
 unfolding numbered
-write-in-order channel fields payload before after r h =
-    let l = write.refusals channel fields payload before in
-    subst (InOrder l) (sym (ap (λ (t : write.Told). t .number) (h .answers))) (first-in-order l refl)
+write-in-order channel fields payload before after r h = told-in-order _ refl (ap (λ (t : write.Told). t .number) (h .answers))
 
 -- ---- a refusal
 

@@ -42,7 +42,7 @@ frames-apart channel x y hx hy px py fx fy l differ =
       even = frame-facts .even start bx by lb wx wy;
       window = frame-facts .window start bx by lb apart wx wy;
       burst = frame-facts .burst start bx by lb apart wx wy;
-      four = frames-four start bx by lb (omega (arith, length-bytes x, frame-size channel x hx px fx, fx .words)) apart wx wy;
+      four = frames-four start bx by lb (omega (arith, length-bytes x, frame-size fx, fx .words)) apart wx wy;
     }
 
 pub not-on-both : NotOnBoth

@@ -1,23 +1,31 @@
 -- The layout rule and what reading tries: bytes in three parts, and the bits of each.
-use Prim.Native.Nat.{ℕ, _+_, _*_, _-_, _%_, _^_, _<_, _≤_}
+use Prim.Native.Nat.{ℕ, _+_, _*_, _-_, _/_, _%_, _^_, _<_, _≤_}
 use mathlib.Core.Path.{_≡_, sym, ap, ap₂, _∙_}
-use mathlib.Core.Bool.{Bool}
+use mathlib.Core.Bool.{Bool, false, _||_}
 use mathlib.Core.List.{List, [], _∷_, _++_, append-assoc}
+use mathlib.Core.Logic.{_↔_}
 use native.Mathlib.Nat.{mod-eq-of-lt}
 use native.Mathlib.Omega.{arith}
+use borrow.Author.Tests.{ltb-false, le-ltb, ne-eqb}
+use lib.Dec.{ltb}
 use lib.ListN.{length, take, drop, length-append, length-drop, take-append-drop}
 use lib.Seq.{length-take-le, take-all, take-take, drop-drop}
+use Rattle.numbers.proofs.Truth.{neither}
 use Rattle.division.specs.Bits.{bits, number, bytesBits}
 use Rattle.division.proofs.BitsLaws.{length-bits, bits-number}
-use Rattle.division.proofs.BytesLaws.{number-take-lt, length-bytes, bytes-append}
+use Rattle.division.proofs.BytesLaws.{length-bytes, bytes-append}
 use Rattle.division.proofs.RegisterLaws.{checksum-lt}
 use Rattle.checksum.specs.declared.Channel.{Channel}
 use Rattle.checksum.specs.Checksums.{headerPolynomial, headerStart, headerBits}
 use Rattle.header.specs.declared.Header.{Header}
-use Rattle.header.specs.Layout.{wholeHeader, headerChecksumOf, field, headerIn}
+use Rattle.header.specs.Layout.{mostWords, wholeHeader, headerChecksumOf, headerIn}
+use Rattle.header.specs.Refusals.{notAnId}
 use Rattle.frame.specs.Layout.{frameChecksumOf, Frame}
+use Rattle.writing.specs.Refusals.{badPayload}
 use Rattle.frame.specs.Read.{payloadRead}
+use Rattle.writing.specs.Write.{headerOf}
 use Rattle.header.proofs.HeaderLaws.{whole-fields}
+use Rattle.frame_claims.specs.Exact.{fieldsOf}
 
 -- ---- a header and its 40 bits
 
@@ -98,17 +106,35 @@ header-checksum-small h =
     checksum-lt 11 headerPolynomial headerStart (headerBits (h .sync) (h .startup) (h .id .0) (h .words)) in
     omega arith
 
--- a field is below the power that its width gives
-pub field-small : (place width : ℕ) (x : List Bool) → field place width x < 2 ^ width
-field-small place width x = number-take-lt width (drop place x)
-
 -- "A frame has 8 + 2 x words bytes"
-pub frame-size : (channel : Channel) (bytes : List ℕ) (header : Header) (payload : List ℕ) → Frame channel bytes header payload
+pub frame-size : {channel : Channel} {bytes : List ℕ} {header : Header} {payload : List ℕ} → Frame channel bytes header payload
     → length bytes ≡ 8 + 2 * header .words
-frame-size channel bytes header payload f =
+frame-size {channel} {bytes} {header} {payload} f =
     let t = bits 24 (frameChecksumOf channel header payload) in
     let tail : length (bytesBits payload ++ t) ≡ 8 * length payload + 24 =
     length-append (bytesBits payload) t ∙ ap₂ _+_ (length-bytes payload) (length-bits 24 (frameChecksumOf channel header payload)) in
     let whole : length (wholeHeader header ++ (bytesBits payload ++ t)) ≡ 40 + (8 * length payload + 24) =
     length-append (wholeHeader header) (bytesBits payload ++ t) ∙ ap₂ _+_ (length-whole header) tail in
     omega (arith, length-bytes bytes, ap length (f .layout), whole, f .payloadLength)
+
+-- ---- tests in words
+
+pub id-range : (id : ℕ) → (notAnId id ≡ false) ↔ ((1 ≤ id) × (id ≤ 2047))
+id-range id = (
+  λ e.
+      let h = neither (ltb id 1) (ltb 2047 id) e in
+      (ltb-false id 1 (h .0), ltb-false 2047 id (h .1)),
+  λ h. ap₂ _||_ (le-ltb id 1 (h .0)) (le-ltb 2047 id (h .1)),
+)
+
+-- a payload of as many words as a header can say
+pub good-payload : (payload : List ℕ) (words : ℕ) → length payload ≡ 2 * words → words ≤ mostWords → badPayload payload ≡ false
+good-payload payload words long most =
+    ap₂ _||_ (ne-eqb (length payload % 2) 1 (λ e. omega arith)) (le-ltb 254 (length payload) (omega arith))
+
+-- a header is the one that its free fields and its payload give
+pub from-fields : (header : Header) (payload : List ℕ) → length payload ≡ 2 * header .words → header .checksum ≡ headerChecksumOf header
+    → headerOf (fieldsOf header) (length payload / 2) ≡ header
+from-fields header payload long checksum =
+    let words : length payload / 2 ≡ header .words = omega arith in
+    ap (headerOf (fieldsOf header)) words ∙ rw (← checksum)

@@ -8,8 +8,8 @@ use native.Mathlib.Omega.{arith}
 use borrow.Author.Tests.{ltb-false, eqb-true, eqb-false, not-false, le-ltb, eq-eqb, ne-eqb}
 use lib.Dec.{ltb}
 use lib.ListN.{length, take, drop}
-use Rattle.refusal.specs.Refusal.{first}
-use Rattle.refusal.proofs.FirstLaws.{first-zero, first-skip, first-end}
+use Rattle.refusal.specs.Refusal.{first, numbered}
+use Rattle.refusal.proofs.FirstLaws.{first-skip, first-end, not-refused}
 use Rattle.division.specs.Bits.{odd, bits, number, bytesBits, AreBytes}
 use Rattle.division.proofs.BitsLaws.{number-bits, bits-number}
 use Rattle.division.proofs.BytesLaws.{append-apart, length-bytes, bytes-inj, are-bytes-take, are-bytes-drop}
@@ -20,11 +20,12 @@ use Rattle.checksum.specs.Checksums.{framePolynomial, frameDivision, frameCheck
 use Rattle.header.specs.declared.Header.{Header}
 use Rattle.header.specs.Layout.{wholeHeader, headerIn}
 use Rattle.header.specs.Refusals.{startupWithoutSync}
+use Rattle.header.proofs.HeaderLaws.{field-small}
 use Rattle.frame.specs.Layout.{frameChecksumOf, Frame}
-use Rattle.frame.specs.Refusals.{tooShort, badSize, headerChecksumDiffers, wordsNotSize, idZero, frameChecksumDiffers}
+use Rattle.frame.specs.Refusals.{headerChecksumDiffers, wordsNotSize, idZero}
 use Rattle.frame.specs.Read.{headerRead, payloadRead, trailerRead, refusalsOn}
 use Rattle.frame.proofs.ReadLaws.{length-five, header-of-five}
-use Rattle.frame_claims.proofs.FrameLaws.{length-whole, whole-header, header-whole, length-trailer, three-parts, two-parts, length-payload, header-checksum-small, field-small, frame-size}
+use Rattle.frame_claims.proofs.FrameLaws.{length-whole, whole-header, header-whole, length-trailer, three-parts, two-parts, length-payload, header-checksum-small, frame-size}
 
 -- ---- startup only with sync, as a test and in words
 
@@ -55,33 +56,16 @@ cycle-small bytes = let small = field-small 34 6 (bytesBits bytes) in omega arit
 payload-are-bytes : (bytes : List ℕ) → AreBytes bytes → AreBytes (payloadRead bytes)
 payload-are-bytes bytes are = are-bytes-drop 5 (take (length bytes - 3) bytes) (are-bytes-take (length bytes - 3) bytes are)
 
--- ---- nothing is refused: none of the seven conditions holds
-
-pub none-of-seven-read : (channel : Channel) (bytes : List ℕ) → first (refusalsOn channel bytes) ≡ 0
-    → (tooShort bytes ≡ false) × (badSize bytes ≡ false) × (headerChecksumDiffers (headerRead bytes) ≡ false)
-    × (wordsNotSize (headerRead bytes) bytes ≡ false) × (idZero (headerRead bytes) ≡ false)
-    × (startupWithoutSync (headerRead bytes .startup) (headerRead bytes .sync) ≡ false)
-    × (frameChecksumDiffers channel bytes (trailerRead bytes) ≡ false)
-none-of-seven-read channel bytes none =
-    let h = headerRead bytes in
-    let z2 = first-zero 1 (tooShort bytes) _ none in
-    let z3 = first-zero 2 (badSize bytes) _ (z2 .1) in
-    let z4 = first-zero 3 (headerChecksumDiffers h) _ (z3 .1) in
-    let z5 = first-zero 4 (wordsNotSize h bytes) _ (z4 .1) in
-    let z6 = first-zero 5 (idZero h) _ (z5 .1) in
-    let z7 = first-zero 6 (startupWithoutSync (h .startup) (h .sync)) _ (z6 .1) in
-    let z8 = first-zero 7 (frameChecksumDiffers channel bytes (trailerRead bytes)) _ (z7 .1) in
-    (z2 .0, z3 .0, z4 .0, z5 .0, z6 .0, z7 .0, z8 .0)
-
--- ---- so it is a frame
+-- ---- nothing is refused: it is a frame
 
 module _ (channel : Channel) (bytes : List ℕ) (are : AreBytes bytes) (none : first (refusalsOn channel bytes) ≡ 0) where
   pub accepted-frame : Frame channel bytes (headerRead bytes) (payloadRead bytes)
+  unfolding numbered
   accepted-frame =
       let h = headerRead bytes in
-      let z = none-of-seven-read channel bytes none in
-      let long : 8 ≤ length bytes = ltb-false (length bytes) 8 (z .0) in
-      let size : 8 + 2 * h .words ≡ length bytes = eqb-true _ _ (not-false _ (z .3)) in
+      let passed = not-refused (refusalsOn channel bytes) refl none in
+      let long : 8 ≤ length bytes = ltb-false (length bytes) 8 (passed 2) in
+      let size : 8 + 2 * h .words ≡ length bytes = eqb-true _ _ (not-false _ (passed 5)) in
       let five = bytesBits (take 5 bytes) in
       let middle = bytesBits (payloadRead bytes) in
       let last = bytesBits (drop (length bytes - 3) bytes) in
@@ -91,28 +75,25 @@ module _ (channel : Channel) (bytes : List ℕ) (are : AreBytes bytes) (none : f
       two-parts bytes long ∙ ap (λ (x : List Bool). x ++ middle) header in
       let trailer : last ≡ bits 24 (frameChecksumOf channel h (payloadRead bytes)) =
       sym (bits-number 24 last (length-trailer bytes long))
-      ∙ ap (bits 24) (eqb-true _ _ (not-false _ (z .6)) ∙ ap (frameDivision channel) covered) in
-      let id : 1 ≤ h .id .0 = positive (h .id .0) (eqb-false _ _ (z .4)) in
+      ∙ ap (bits 24) (eqb-true _ _ (not-false _ (passed 8)) ∙ ap (frameDivision channel) covered) in
+      let not-zero = eqb-false (h .id .0) 0 (passed 6) in
       record {
         areBytes = are;
         payloadAreBytes = payload-are-bytes bytes are;
         layout = three-parts bytes long ∙ ap₂ (λ (x y : List Bool). x ++ (middle ++ y)) header trailer;
-        checksum = eqb-true _ _ (not-false _ (z .2));
-        id = (id, id-small bytes);
+        checksum = eqb-true _ _ (not-false _ (passed 4));
+        id = (omega arith, id-small bytes);
         words = words-small bytes;
         payloadLength = length-payload bytes long ∙ omega arith;
         cycle = cycle-small bytes;
-        startup = only-with (h .startup) (h .sync) (z .5);
+        startup = only-with (h .startup) (h .sync) (passed 7);
       }
-    where
-      positive : (n : ℕ) → (n ≡ 0 → ⊥) → 1 ≤ n
-      positive n h = omega arith
 
 -- ---- it is a frame, so nothing is refused, and these are its header and its payload
 
-module _ (channel : Channel) (bytes : List ℕ) (header : Header) (payload : List ℕ) (f : Frame channel bytes header payload) where
+module _ {channel : Channel} {bytes : List ℕ} {header : Header} {payload : List ℕ} (f : Frame channel bytes header payload) where
   size : length bytes ≡ 8 + 2 * header .words
-  size = frame-size channel bytes header payload f
+  size = frame-size f
 
   long : 8 ≤ length bytes
   long = omega (arith, size)

@@ -1,14 +1,15 @@
 -- What each witness shows, from the statements of the entries that it calls.
-use Prim.Native.Nat.{ℕ, zero, suc, _+_, _/_, _≤_}
+use Prim.Native.Nat.{ℕ, _+_, _/_, _≤_}
 use mathlib.Core.Path.{_≡_, refl, sym, ap, _∙_, subst}
 use mathlib.Core.Bool.{Bool, true, false, false≢true, cond}
 use mathlib.Core.List.{List, []}
 use native.Mathlib.Omega.{arith}
-use borrow.Author.Tests.{ltb-false, eqb-true, eqb-false, eq-eqb}
+use borrow.Author.Tests.{eqb-true, eqb-false, eq-eqb}
 use lib.Dec.{eqb}
 use lib.ListN.{length, take, drop}
-use Rattle.refusal.specs.Refusal.{first, ifAccepted}
-use Rattle.refusal.proofs.FirstLaws.{if-refused}
+use Rattle.numbers.proofs.Walk.{cases, cases-in}
+use Rattle.refusal.specs.Refusal.{first, numbered}
+use Rattle.refusal.proofs.FirstLaws.{if-refused, not-refused}
 use Rattle.division.specs.Bits.{AreBytes}
 use Rattle.checksum.specs.declared.Channel.{Channel}
 use Rattle.checksum.specs.declared.Channel.the-variants.{A, B}
@@ -26,14 +27,11 @@ use Rattle.frame.specs.Read.{headerRead, payloadRead, ReadSays, PayloadSays}
 use Rattle.writing.specs.Write as write
 use Rattle.lent_bytes.specs.Over.{over}
 use Rattle.writing.specs.Write.{headerOf, frameBytes, WriteSays}
-use Rattle.lent_bytes.proofs.OverLaws.{length-over}
-use Rattle.writing.proofs.WriteLaws.{length-frame}
 use Rattle.frame_claims.specs.Damage.{BothAccepted}
 use Rattle.frame_claims.specs.Exact.{FrameOn, fieldsOf, AcceptsFrames, ReadingOf, PayloadOf, Wrote, Rewritten, Sent, Reread, RereadPayload}
-use Rattle.frame_claims.proofs.Answers.{read-one, write-one, written-answer, refused-unchanged}
-use Rattle.frame_claims.proofs.Exact.{given-part, frame-of, frame-none, frame-says, read-exactly, none-of-seven, front-frame, rest-is, write-gives-only, written-again}
+use Rattle.frame_claims.proofs.Answers.{read-one, write-one, refused-unchanged}
+use Rattle.frame_claims.proofs.Exact.{frame-of, frame-none, frame-says, frame-part, read-exactly, size-is, room, same-length, rest-is, front-frame, front-only, written-again}
 use Rattle.frame_claims.proofs.FrameLaws.{frame-size}
-use Rattle.frame_claims.proofs.Reading.{frame-payload}
 use Rattle.frame_claims.proofs.Damage.{frames-apart, not-on-both}
 
 -- ---- accepted or not
@@ -43,7 +41,7 @@ pub accepts-frames : (channel : ℕ) (bytes : List ℕ) (r : Reading) → AreByt
 accepts-frames channel bytes r are says =
     let number : read.told r .number ≡ first (read.refusals channel bytes) = ap (λ (t : read.Told). t .number) says in (
       λ e. (headerRead bytes, payloadRead bytes, frame-of channel bytes are (sym number ∙ eqb-true (read.told r .number) 0 e)),
-      λ f. eq-eqb (read.told r .number) 0 (number ∙ frame-none channel bytes (f .0) (f .1) (f .2)),
+      λ f. eq-eqb (read.told r .number) 0 (number ∙ frame-none (f .2)),
     )
 
 -- with the part that belongs to these bytes
@@ -89,9 +87,7 @@ both-apart channel x y r s onX e onY =
 pub of-frames : (channel : ℕ) (bytes part : List ℕ) → AreBytes bytes → PayloadSays channel bytes part → PayloadOf channel bytes part
 of-frames channel bytes part are gives =
     record {
-      frame =
-          λ header payload f.
-          given-part channel bytes part (frame-none channel bytes header payload f) gives ∙ frame-payload (f .on) bytes header payload (f .frame);
+      frame = λ header payload f. frame-part f gives;
       other =
           λ none.
           gives
@@ -107,7 +103,7 @@ not-rewritten channel bytes before r says refused =
     record {
       exactly = (
         λ t. absurd (false≢true t),
-        λ f. absurd (refused (ap (λ (t : read.Told). t .number) says ∙ frame-none channel bytes (f .0) (f .1) (f .2))),
+        λ f. absurd (refused (ap (λ (t : read.Told). t .number) says ∙ frame-none (f .2))),
       );
       output = refl;
     }
@@ -115,11 +111,8 @@ not-rewritten channel bytes before r says refused =
 module _ (channel : ℕ) (bytes before after part : List ℕ) (r : Reading) (w : Writing)
     (are : AreBytes bytes) (reads : ReadSays channel bytes r) (accepted : read.told r .number ≡ 0) (gives : PayloadSays channel bytes part)
     (writes : WriteSays channel (fieldsOf (read.told r .header)) part before after w) where
-  none-read : first (read.refusals channel bytes) ≡ 0
-  none-read = sym (ap (λ (t : read.Told). t .number) reads) ∙ accepted
-
   here : FrameOn channel bytes (headerRead bytes) (payloadRead bytes)
-  here = frame-of channel bytes are none-read
+  here = frame-of channel bytes are (sym (ap (λ (t : read.Told). t .number) reads) ∙ accepted)
 
   -- the same write, of the header and the payload of a frame that these bytes are
   same-write : (header : Header) (payload : List ℕ) → FrameOn channel bytes header payload
@@ -131,13 +124,20 @@ module _ (channel : ℕ) (bytes before after part : List ℕ) (r : Reading) (w :
 
   -- where it was written, the reserved bit was 0 and there was room
   if-written : eqb (write.told w .number) 0 ≡ true → (headerRead bytes .reserved ≡ false) × (length bytes ≤ length before)
+  unfolding numbered
   if-written t =
+      let fields = fieldsOf (headerRead bytes) in
       let says = same-write (headerRead bytes) (payloadRead bytes) here in
-      let none : write.refusal channel (fieldsOf (headerRead bytes)) (payloadRead bytes) before ≡ 0 =
-      sym (ap (λ (t : write.Told). t .number) (says .answers)) ∙ eqb-true (write.told w .number) 0 t in
-      let z = none-of-seven channel (fieldsOf (headerRead bytes)) (payloadRead bytes) before none in
-      let room : 8 + length (payloadRead bytes) ≤ length before = ltb-false (length before) (8 + length (payloadRead bytes)) (z .6) in
-      (z .5, omega (arith, frame-size (here .on) bytes (headerRead bytes) (payloadRead bytes) (here .frame), here .frame .payloadLength))
+      let none : write.refusal channel fields (payloadRead bytes) before ≡ 0 =
+      sym (ap (λ (t : write.Told). t .number) (says .answers)) ∙ eqb-true (write.told w .number) 0 t in (
+        not-refused (write.refusals channel fields (payloadRead bytes) before) refl none 12,
+        omega (
+          arith,
+          room channel fields (payloadRead bytes) before after w says none,
+          frame-size (here .frame),
+          here .frame .payloadLength,
+        ),
+      )
 
   -- where the reserved bit is 0 and there is room, it was written
   was-written : (header : Header) (payload : List ℕ) → FrameOn channel bytes header payload → header .reserved ≡ false
@@ -153,93 +153,61 @@ module _ (channel : ℕ) (bytes before after part : List ℕ) (r : Reading) (w :
           λ t. (headerRead bytes, payloadRead bytes, here, if-written t .0, if-written t .1),
           λ f. ap (λ (x : Writing). eqb (write.told x .number) 0) (was-written (f .0) (f .1) (f .2) (f .3) (f .4) .0),
         );
-        output = by (eqb (write.told w .number) 0) refl;
+        output =
+            cases-in (λ b. after ≡ cond b (over bytes before) before) (eqb (write.told w .number) 0)
+            (λ t. was-written (headerRead bytes) (payloadRead bytes) here (if-written t .0) (if-written t .1) .1)
+            (λ t. refused-unchanged channel (fieldsOf (read.told r .header)) part before after w writes (eqb-false (write.told w .number) 0 t));
       }
-    where
-      by : (b : Bool) → eqb (write.told w .number) 0 ≡ b → after ≡ cond b (over bytes before) before
-      by true t = was-written (headerRead bytes) (payloadRead bytes) here (if-written t .0) (if-written t .1) .1
-      by false t =
-          refused-unchanged channel (fieldsOf (read.told r .header)) part before after w writes (eqb-false (write.told w .number) 0 t)
 
 -- ---- written, then read
 
--- what was written is within the output
-pub size-within : (channel : ℕ) (fields : Fields) (payload before after : List ℕ) (w : Writing)
-    → WriteSays channel fields payload before after w → write.told w .length ≤ length after
-size-within channel fields payload before after w says = by (write.refusal channel fields payload before) refl
-  where
-    frame : List ℕ
-    frame = frameBytes (channelOf channel) fields payload
-
-    by : (n : ℕ) → write.refusal channel fields payload before ≡ n → write.told w .length ≤ length after
-    by (suc n) e =
-        let none : write.told w .length ≡ 0 =
-        ap (λ (t : write.Told). t .length) (says .answers) ∙ ap (λ (k : ℕ). ifAccepted k (8 + length payload) 0) e in
-        omega arith
-    by zero e =
-        let size : write.told w .length ≡ 8 + length payload =
-        ap (λ (t : write.Told). t .length) (says .answers) ∙ ap (λ (k : ℕ). ifAccepted k (8 + length payload) 0) e in
-        let room : 8 + length payload ≤ length before =
-        ltb-false (length before) (8 + length payload) (none-of-seven channel fields payload before e .6) in
-        let kept : length after ≡ length before =
-        ap length (says .writes ∙ ap (λ (k : ℕ). ifAccepted k (over frame before) before) e)
-        ∙ length-over frame before (omega (arith, length-frame (channelOf channel) fields payload)) in
-        omega arith
-
--- a written frame, as it is read
-module _ (channel : ℕ) (fields : Fields) (payload before after : List ℕ) (w : Writing) (are : AreBytes payload)
+module _ (channel : ℕ) (fields : Fields) (payload before after : List ℕ) (w : Writing)
     (says : WriteSays channel fields payload before after w) where
-  front : write.refusal channel fields payload before ≡ 0
-      → FrameOn channel (take (write.told w .length) after) (headerOf fields (length payload / 2)) payload
-  front none =
-      let size = 8 + length payload in
-      let answer : w ≡ Written size = written-answer channel fields payload before after w says none in
-      subst (λ (x : Writing). FrameOn channel (take (write.told x .length) after) (headerOf fields (length payload / 2)) payload) (sym answer)
-      (front-frame channel fields payload before after size are (subst (WriteSays channel fields payload before after) answer says))
+  -- with a refusal the size is 0, and the output as it was
+  unchanged : (write.refusal channel fields payload before ≡ 0 → ⊥) → (write.told w .length ≡ 0) × (after ≡ before)
+  unchanged refused = (
+    ap (λ (t : write.Told). t .length) (says .answers) ∙ if-refused (write.refusal channel fields payload before) (8 + length payload) 0 refused,
+    says .writes
+        ∙ if-refused (write.refusal channel fields payload before) (over (frameBytes (channelOf channel) fields payload) before) before refused,
+  )
 
-  pub was-sent : Sent channel fields payload before (take (write.told w .length) after)
-  was-sent none = (headerOf fields (length payload / 2), refl, front none)
+  -- what was written is within the output
+  pub size-within : write.told w .length ≤ length after
+  size-within =
+      cases (eqb (write.refusal channel fields payload before) 0)
+      (λ t.
+      let none = eqb-true (write.refusal channel fields payload before) 0 t in
+      omega (
+        arith,
+        size-is channel fields payload before after w says none,
+        room channel fields payload before after w says none,
+        same-length channel fields payload before after w says none,
+      ))
+      (λ t. omega (arith, unchanged (eqb-false (write.refusal channel fields payload before) 0 t) .0))
 
-  pub wrote : Wrote channel fields payload before after (write.told w .length)
-  wrote =
-      record {
-        frame = was-sent;
-        only =
-            λ none bytes header same f.
-            let size = 8 + length payload in
-            let answer : w ≡ Written size = written-answer channel fields payload before after w says none in
-            write-gives-only channel fields payload before after size are (subst (WriteSays channel fields payload before after) answer says) bytes header same f
-            ∙ ap (λ (x : Writing). take (write.told x .length) after) (sym answer);
-        behind = by (write.refusal channel fields payload before) refl;
-        refused = unchanged;
-      }
-    where
-      unchanged : (write.refusal channel fields payload before ≡ 0 → ⊥) → (write.told w .length ≡ 0) × (after ≡ before)
-      unchanged refused = (
-        ap (λ (t : write.Told). t .length) (says .answers) ∙ if-refused (write.refusal channel fields payload before) (8 + length payload) 0 refused,
-        says .writes
-            ∙ if-refused (write.refusal channel fields payload before) (over (frameBytes (channelOf channel) fields payload) before) before refused,
-      )
+  module _ (are : AreBytes payload) where
+    pub was-sent : Sent channel fields payload before (take (write.told w .length) after)
+    was-sent none = (headerOf fields (length payload / 2), refl, front-frame channel fields payload before after w says none are)
 
-      by : (n : ℕ) → write.refusal channel fields payload before ≡ n → drop (write.told w .length) after ≡ drop (write.told w .length) before
-      by (suc n) e =
-          ap (drop (write.told w .length)) (unchanged (λ z. absurd (let q : _≡_ {A = ℕ} (suc n) 0 = sym e ∙ z in omega arith)) .1)
-      by zero e =
-          let size = 8 + length payload in
-          let answer : w ≡ Written size = written-answer channel fields payload before after w says e in
-          ap (λ (x : Writing). drop (write.told x .length) after) answer
-          ∙ rest-is channel fields payload before after size are (subst (WriteSays channel fields payload before after) answer says)
-          ∙ ap (λ (x : Writing). drop (write.told x .length) before) (sym answer)
+    pub wrote : Wrote channel fields payload before after (write.told w .length)
+    wrote =
+        record {
+          frame = was-sent;
+          only = λ none. front-only channel fields payload before after w says none are;
+          behind =
+              cases (eqb (write.refusal channel fields payload before) 0)
+              (λ t. rest-is channel fields payload before after w says (eqb-true (write.refusal channel fields payload before) 0 t))
+              (λ t. ap (drop (write.told w .length)) (unchanged (eqb-false (write.refusal channel fields payload before) 0 t) .1));
+          refused = unchanged;
+        }
 
 -- what was sent, as it is read
 pub was-reread : (channel : ℕ) (fields : Fields) (payload before bytes : List ℕ) (r : Reading)
     → Sent channel fields payload before bytes → ReadSays channel bytes r → Reread channel fields payload before r
 was-reread channel fields payload before bytes r sent reads none =
     let f = sent none in
-    (f .0, read-one channel bytes r (Accepted (f .0)) reads (frame-says channel bytes (f .0) payload (f .2)), f .1)
+    (f .0, read-one channel bytes r (Accepted (f .0)) reads (frame-says (f .2)), f .1)
 
 pub payload-reread : (channel : ℕ) (fields : Fields) (payload before bytes part : List ℕ)
     → Sent channel fields payload before bytes → PayloadSays channel bytes part → RereadPayload channel fields payload before part
-payload-reread channel fields payload before bytes part sent gives none =
-    let f = sent none in
-    given-part channel bytes part (frame-none channel bytes (f .0) payload (f .2)) gives ∙ frame-payload (f .2 .on) bytes (f .0) payload (f .2 .frame)
+payload-reread channel fields payload before bytes part sent gives none = frame-part (sent none .2) gives

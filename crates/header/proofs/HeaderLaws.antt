@@ -12,7 +12,7 @@ use lib.ListN.{length, take, drop, length-append, length-drop, List·getD-append
 use lib.Seq.{take-at, drop-at, getD-at, take-append-le, drop-append-le}
 use Rattle.division.specs.Bits.{odd, bit, bits, number}
 use Rattle.division.proofs.BitsLaws.{length-bits, number-bits}
-use Rattle.division.proofs.BytesLaws.{bits-mod, bits-split}
+use Rattle.division.proofs.BytesLaws.{number-take-lt, bits-mod, bits-split}
 use Rattle.checksum.specs.Checksums.{headerDivision, headerBits}
 use Rattle.header.specs.declared.Header.{Header}
 use Rattle.header.specs.Layout.{wholeHeader, headerChecksumOf, flag, field, headerIn}
@@ -215,3 +215,7 @@ pub checksum-whole : (h : Header) → headerChecksumOf (headerIn (wholeHeader h)
 checksum-whole h =
     ap headerChecksumOf (whole-fields h)
     ∙ ap₂ (λ (x y : List Bool). headerDivision (h .sync ∷ h .startup ∷ (x ++ y))) (bits-mod 11 (h .id .0)) (bits-mod 7 (h .words))
+
+-- a field is below the power that its width gives
+pub field-small : (place width : ℕ) (x : List Bool) → field place width x < 2 ^ width
+field-small place width x = number-take-lt width (drop place x)

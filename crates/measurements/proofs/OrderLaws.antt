@@ -63,7 +63,7 @@ offset-permuted {ms} {ns} p sendsSync limit =
     (values-permuted (offsetOf ms) (offsetOf ns)
     (λ id. smallest-permuted (deviations-permuted (λ (m : Taken). eqb (m .id) id) p)) (ids-permuted p))
 
-on-permuted : (channel : Channel) (id : ℕ) {ms ns : List Taken} → Permuted ms ns → deviationOn channel ms id ≡ deviationOn channel ns id
+pub on-permuted : (channel : Channel) (id : ℕ) {ms ns : List Taken} → Permuted ms ns → deviationOn channel ms id ≡ deviationOn channel ns id
 on-permuted channel id p = smallest-permuted (deviations-permuted (λ (m : Taken). eqb (m .id) id && sameChannel (m .channel) channel) p)
 
 both-permuted : (id : ℕ) {ms ns : List Taken} → Permuted ms ns → deviationsOn ms id ≡ deviationsOn ns id

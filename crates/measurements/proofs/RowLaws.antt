@@ -20,7 +20,7 @@ use Rattle.sync_list.specs.declared.row.Measured.the-variants.{Nothing, Is}
 use Rattle.sync_list.specs.declared.row.Row.{Row}
 use Rattle.sync_list.specs.Rows.{isMeasured, valueOf, deviationsOf}
 use Rattle.sync_list.specs.Lists.{idOf, idsOf, isAmong, noneTwice, rowIn}
-use Rattle.list_soundness.specs.Sound.{isInRange, rowSound, rowsSound}
+use Rattle.list_soundness.specs.Sound.{rowSound, rowsSound}
 use Rattle.list_values.specs.Values.{present, offsetValues, rateValues}
 use Rattle.measurements.specs.Measurements.{Taken, taken, standsFor, without, different, differentIds, sameChannel}
 use Rattle.measurements.specs.Terms.{deviationsIf, smallest, deviationOn, deviationsOn, offsetOf, offsetValuesOf, rateOf, rateValuesOf}
@@ -39,10 +39,9 @@ row-ids id (Is m) Nothing ms e = refl
 row-ids id (Is m) (Is n) ms e =
     ap (_∷_ id) (without-met id id (without id (differentIds ms)) (eq-eqb id id refl) ∙ without-twice id (differentIds ms))
 
-is-measured : (row : Row) → rowSound row ≡ true → isMeasured (row .«on_a») || isMeasured (row .«on_b») ≡ true
-is-measured row e =
-    let h = both-true (not (notAnId (idOf row))) _ e in
-    both-true (isMeasured (row .«on_a») || isMeasured (row .«on_b»)) (isInRange (row .«on_a») && isInRange (row .«on_b»)) (h .1) .0
+pub row-measured : (row : Row) → rowSound row ≡ true → isMeasured (row .«on_a») || isMeasured (row .«on_b») ≡ true
+row-measured row e =
+    both-true (isMeasured (row .«on_a») || isMeasured (row .«on_b»)) _ (both-true (not (notAnId (idOf row))) _ e .1) .0
 
 pub rows-ids : (rows : List Row) → rowsSound rows ≡ true → noneTwice (idsOf rows) ≡ true → differentIds (standsFor rows) ≡ idsOf rows
 unfolding standsFor rowsSound different
@@ -51,7 +50,7 @@ rows-ids (row ∷ rows) s n =
     let h = both-true (rowSound row) (rowsSound rows) s in
     let g = none-twice (idOf row) (idsOf rows) n in
     let ih : differentIds (standsFor rows) ≡ idsOf rows = rows-ids rows (h .1) (g .1) in
-    row-ids (idOf row) (row .«on_a») (row .«on_b») (standsFor rows) (is-measured row (h .0))
+    row-ids (idOf row) (row .«on_a») (row .«on_b») (standsFor rows) (row-measured row (h .0))
     ∙ ap (λ (ids : List ℕ). idOf row ∷ without (idOf row) ids) ih
     ∙ ap (_∷_ (idOf row)) (without-absent (idOf row) (idsOf rows) (g .0))
 
@@ -143,7 +142,7 @@ module _ (rows : List Row) (n : noneTwice (idsOf rows) ≡ true) (id : Slot) whe
   row-on : (channel : Channel) → deviationOn channel (standsFor rows) (id .0) ≡ deviationOn channel (measuredOf (id .0) (rowIn id rows) []) (id .0)
   row-on channel = ap smallest (of-row id (meantOn channel) (λ m e. ap (λ (t : Bool). t && sameChannel (m .channel) channel) e) rows n)
 
-  row-deviations : deviationsOn (standsFor rows) (id .0) ≡ deviationsOf (rowIn id rows)
+  pub row-deviations : deviationsOn (standsFor rows) (id .0) ≡ deviationsOf (rowIn id rows)
   row-deviations =
       let row = rowIn id rows in
       let same : eqb (id .0) (id .0) && true ≡ true = ap (λ (t : Bool). t && true) same-id in

@@ -1,7 +1,7 @@
 -- The smallest of some deviations does not depend on their order.
-use mathlib.Core.Path.{_≡_, refl, _∙_}
+use mathlib.Core.Path.{_≡_, refl}
 use mathlib.Core.Bool.{Bool, true, false, cond}
-use mathlib.Core.List.{List, [], _∷_, List·Permᴰ·nil, List·Permᴰ·cons, List·Permᴰ·swap, List·Permᴰ·trans}
+use mathlib.Core.List.{List, [], _∷_}
 use lib.IntN.{ℤ}
 use lib.Signed.{ltZ}
 use Rattle.numbers.proofs.Signed.{signed}
@@ -12,7 +12,7 @@ use Rattle.correction.specs.declared.value.Value.the-variants.{Absent, Is}
 use Rattle.correction.specs.Values.{is, smaller}
 use Rattle.measurements.specs.Measurements.{Taken}
 use Rattle.measurements.specs.Terms.{deviationsIf, smallest}
-use Rattle.measurements.proofs.PermutedLaws.{rule-permuted}
+use Rattle.measurements.proofs.PermutedLaws.{rule-permuted, fold-permuted}
 
 -- ---- the smallest
 
@@ -36,11 +36,7 @@ smaller-swap x y (Is z) =
 
 pub smallest-permuted : {l m : List ℤ} → Permuted l m → smallest l ≡ smallest m
 unfolding smallest
-smallest-permuted List·Permᴰ·nil = refl
-smallest-permuted (List·Permᴰ·cons e p) = let ih = smallest-permuted p in λ i. smaller (is (e i)) (ih i)
-smallest-permuted (List·Permᴰ·swap {a} {b} {l = l} e g) =
-    smaller-swap a b (smallest l) ∙ (λ i. smaller (is (g i)) (smaller (is (e i)) (smallest l)))
-smallest-permuted (List·Permᴰ·trans p q) = smallest-permuted p ∙ smallest-permuted q
+smallest-permuted = fold-permuted smallest (λ x v. smaller (is x) v) (λ x xs. refl) smaller-swap
 
 -- ---- the deviations that are meant
 

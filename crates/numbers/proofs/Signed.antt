@@ -5,11 +5,10 @@ use mathlib.Core.Bool.{Bool, true, false, not, cond}
 use Prim.Native.Nat.{ℕ, zero, suc, _+_, _-_, _/_, _<_, _≤_, _^_, max}
 use native.Mathlib.Omega.{arith}
 use lib.Dec.{T, ltb, ltb→lt, nltb→le}
-use lib.IntN.{ℤ, pos, negsuc, negℤ, natAbs, subℕ, _+ℤ_, _-ℤ_}
-use lib.Signed.{mag, ltZ, leZ, nonNeg, quotZ}
+use lib.IntN.{ℤ, pos, negsuc, negℤ, subℕ, _+ℤ_, _-ℤ_}
+use lib.Signed.{mag, ltZ, leZ, quotZ}
 use mir.Syntax.{Width}
-use mir.Val.{SFits, Fits, bits, hbits}
-use mir.Facts.{fits-natAbs}
+use mir.Val.{SFits, hbits}
 use borrow.Author.Tests.{ltb-true, ltb-false, leb-true, leb-false, lt-ltb, le-ltb, le-leb, lt-leb}
 
 abbrev pub up : ℤ → ℕ

@@ -21,6 +21,11 @@ pub cases : {P : Type 0} (t : Bool) → (t ≡ true → P) → (t ≡ false → 
 cases true f g = f refl
 cases false f g = g refl
 
+-- the same where what is to be shown has the test in it
+pub cases-in : (P : Bool → Type 0) (t : Bool) → (t ≡ true → P true) → (t ≡ false → P false) → P t
+cases-in P true f g = f refl
+cases-in P false f g = g refl
+
 -- the two ways to where the arms of a branch meet, the sum first, so that antt knows what each way holds when it reads the answers
 pub came : {A B P : Type 0} → A ⊎ B → (A → P) → (B → P) → P
 came s f g = ⊎-elim f g s

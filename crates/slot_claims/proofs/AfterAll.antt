@@ -1,22 +1,25 @@
 -- What a sequence of events leaves of a status: one law for a flag, and one for what is kept first.
 use mathlib.Core.Path.{_≡_, refl, sym, ap, _∙_}
-use mathlib.Core.Bool.{Bool, true, false, _||_, cond, or-false}
-use mathlib.Core.List.{List, [], _∷_}
-use mathlib.Core.Logic.{_↔_}
+use mathlib.Core.Bool.{Bool, true, false, false≢true, _||_, cond}
+use mathlib.Core.List.{List, [], _∷_, _++_, List·Memᴰ·head, List·Memᴰ·not-nil}
+use mathlib.Core.Logic.{_⊎_, inl, inr, _↔_}
+use Rattle.numbers.proofs.Truth.{either-true, true-left, true-right}
+use Rattle.numbers.proofs.Walk.{cases, came}
 use Rattle.slot.specs.declared.status.Status.{Status}
 use Rattle.slot.specs.Judging.{Place, placeOf, fresh}
 use Rattle.slot.specs.Sound.{sound}
 use Rattle.slot_events.specs.Effect.{Event, Brought, brings, after}
 use Rattle.slot_claims.specs.Histories.{Some, First}
-use Rattle.slot_claims.proofs.FirstLaws.{or-between, first-of-three}
 use Rattle.slot_claims.proofs.SoundCalls.{after-sound}
-use Rattle.slot_claims.proofs.SequenceLaws.{some-same, first-same, any, any-some, some-any, firstIn, found-first, first-found}
-
--- ---- what the events leave of a status
+use Rattle.slot_claims.proofs.SequenceLaws.{some-later, some-cases, first-here, first-later}
 
 unfoldable pub afterAll : Status → List Event → Status
 afterAll s [] = s
 afterAll s (e ∷ events) = afterAll (after s e) events
+
+-- the status at the end, from a fresh one
+abbrev pub end : Place → List Event → Status
+end p events = afterAll (fresh p) events
 
 pub all-place : (s : Status) (events : List Event) → placeOf (afterAll s events) ≡ placeOf s
 unfolding afterAll
@@ -28,67 +31,90 @@ unfolding afterAll
 all-sound s [] good = good
 all-sound s (e ∷ events) good = all-sound (after s e) events (after-sound s e good)
 
--- A flag stands at the end if some event set it or if it stood before.
-module _ (flag : Status → Bool) (sets : Brought → Bool)
-    (once : (s : Status) (e : Event) → flag (after s e) ≡ sets (brings (placeOf s) e) || flag s) where
-  all-flag : (s : Status) (events : List Event) → flag (afterAll s events) ≡ any (λ e. sets (brings (placeOf s) e)) events || flag s
-  unfolding afterAll any
-  all-flag s [] = refl
-  all-flag s (e ∷ events) =
-      let rest = any (λ x. sets (brings (placeOf s) x)) events in
-      all-flag (after s e) events ∙ ap (_||_ rest) (once s e) ∙ or-between rest (sets (brings (placeOf s) e)) (flag s)
+-- ---- a flag
 
--- What is kept at the end is what was kept before, or the first that an event brought.
-module _ {A : Type 0} (is : A → Bool) (none : A) (only : (a : A) → is a ≡ false → a ≡ none) (keeps : Status → A) (gives : Brought → A)
+-- It stands at the end where it was set by some event, of which P holds, or stood before.
+module _ (flag : Status → Bool) (sets : Brought → Bool) (once : (s : Status) (e : Event) → flag (after s e) ≡ sets (brings (placeOf s) e) || flag s)
+    (P : Event → Type 0) where
+  flag-some : (s : Status) → ((e : Event) → (sets (brings (placeOf s) e) ≡ true) ↔ P e) → (events : List Event)
+      → flag (afterAll s events) ≡ true → Some P events ⊎ (flag s ≡ true)
+  unfolding afterAll
+  flag-some s same [] t = inr t
+  flag-some s same (e ∷ events) t =
+      came (flag-some (after s e) same events t)
+      (λ later. inl (some-later e events later))
+      (λ now.
+      came (either-true (sets (brings (placeOf s) e)) (flag s) (sym (once s e) ∙ now)) (λ set. inl (e, List·Memᴰ·head refl, same e .0 set)) inr)
+
+  some-flag : (s : Status) → ((e : Event) → (sets (brings (placeOf s) e) ≡ true) ↔ P e) → (events : List Event)
+      → Some P events ⊎ (flag s ≡ true) → flag (afterAll s events) ≡ true
+  unfolding afterAll
+  some-flag s same [] x = came x (λ some. absurd (List·Memᴰ·not-nil (some .1))) (λ t. t)
+  some-flag s same (e ∷ events) x =
+      let set = sets (brings (placeOf s) e) in
+      some-flag (after s e) same events
+      (came x
+      (λ some. came (some-cases e events some) (λ here. inr (once s e ∙ true-left set (flag s) (same e .1 here))) inl)
+      (λ t. inr (once s e ∙ true-right set (flag s) t)))
+
+  -- from a fresh status, where it is clear: exactly when some event set it
+  pub flag-exactly : (p : Place) (events : List Event) → flag (fresh p) ≡ false → ((e : Event) → (sets (brings p e) ≡ true) ↔ P e)
+      → (flag (end p events) ≡ true) ↔ Some P events
+  flag-exactly p events clear same = (
+    λ t. came (flag-some (fresh p) same events t) (λ some. some) (λ stood. absurd (false≢true (sym clear ∙ stood))),
+    λ some. some-flag (fresh p) same events (inl some),
+  )
+
+-- ---- what is kept
+
+-- It is the first that an event brought, of which P holds.
+module _ {A : Type 0} (is : A → Bool) (keeps : Status → A) (gives : Brought → A)
     (once : (s : Status) (e : Event) → keeps (after s e) ≡ cond (is (keeps s)) (keeps s) (gives (brings (placeOf s) e))) where
-  all-first : (s : Status) (events : List Event)
-      → keeps (afterAll s events) ≡ cond (is (keeps s)) (keeps s) (firstIn is (λ e. gives (brings (placeOf s) e)) none events)
-  unfolding afterAll firstIn
-  all-first s [] = by (is (keeps s)) refl
-    where
-      by : (b : Bool) → is (keeps s) ≡ b → keeps s ≡ cond b (keeps s) none
-      by true e = refl
-      by false e = only (keeps s) e
-  all-first s (e ∷ events) =
-      let rest = firstIn is (λ x. gives (brings (placeOf s) x)) none events in
-      all-first (after s e) events ∙ ap (λ (a : A). cond (is a) a rest) (once s e)
-      ∙ first-of-three is (keeps s) (gives (brings (placeOf s) e)) rest
+  -- what is kept stays
+  stays : (s : Status) (events : List Event) → is (keeps s) ≡ true → keeps (afterAll s events) ≡ keeps s
+  unfolding afterAll
+  stays s [] there = refl
+  stays s (e ∷ events) there =
+      let same : keeps (after s e) ≡ keeps s = once s e ∙ ap (λ (b : Bool). cond b (keeps s) (gives (brings (placeOf s) e))) there in
+      stays (after s e) events (ap is same ∙ there) ∙ same
 
--- ---- from a fresh status
+  -- where nothing is kept, an event's is taken
+  takes : (s : Status) (e : Event) → is (keeps s) ≡ false → keeps (after s e) ≡ gives (brings (placeOf s) e)
+  takes s e none = once s e ∙ ap (λ (b : Bool). cond b (keeps s) (gives (brings (placeOf s) e))) none
 
--- the status at the end
-abbrev pub end : Place → List Event → Status
-end p events = afterAll (fresh p) events
+  module _ (P : Event → Type 0) where
+    kept-first : (s : Status) → ((e : Event) → (is (gives (brings (placeOf s) e)) ≡ true) ↔ P e) → (events : List Event) (a : A)
+        → is a ≡ true → is (keeps s) ≡ false → keeps (afterAll s events) ≡ a → (e : Event) × First P events e × (gives (brings (placeOf s) e) ≡ a)
+    unfolding afterAll
+    kept-first s same [] a there none k = absurd (false≢true (sym none ∙ ap is k ∙ there))
+    kept-first s same (e ∷ events) a there none k =
+        let new : is (keeps (after s e)) ≡ is (gives (brings (placeOf s) e)) = ap is (takes s e none) in
+        cases (is (gives (brings (placeOf s) e)))
+        (λ t. (e, first-here e events (same e .0 t), sym (stays (after s e) events (new ∙ t) ∙ takes s e none) ∙ k))
+        (λ t.
+        let r = kept-first (after s e) same events a there (new ∙ t) k in
+        (r .0, first-later e events (r .0) (λ h. false≢true (sym t ∙ same e .1 h)) (r .1), r .2))
 
-module _ (p : Place) (events : List Event) where
-  -- a flag stands exactly when some event set it
-  pub flag-exactly : (flag : Status → Bool) (sets : Brought → Bool)
-      → ((s : Status) (e : Event) → flag (after s e) ≡ sets (brings (placeOf s) e) || flag s) → flag (fresh p) ≡ false
-      → (P : Event → Type 0) → ((e : Event) → (sets (brings p e) ≡ true) ↔ P e) → (flag (end p events) ≡ true) ↔ Some P events
-  flag-exactly flag sets once clear P same =
-      let f : Event → Bool = λ e. sets (brings p e) in
-      let is : flag (afterAll (fresh p) events) ≡ any f events =
-      all-flag flag sets once (fresh p) events ∙ ap (_||_ (any f events)) clear ∙ or-false (any f events) in
-      let words = some-same {P = λ e. f e ≡ true} {Q = P} same events in
-      (λ t. words .0 (any-some f events (sym is ∙ t)), λ s. is ∙ some-any f events (words .1 s))
+    first-kept : (s : Status) → ((e : Event) → (is (gives (brings (placeOf s) e)) ≡ true) ↔ P e) → (before later : List Event) (e : Event)
+        → is (keeps s) ≡ false → P e → (Some P before → ⊥) → keeps (afterAll s (before ++ (e ∷ later))) ≡ gives (brings (placeOf s) e)
+    unfolding afterAll
+    first-kept s same [] later e none h earlier = stays (after s e) later (ap is (takes s e none) ∙ same e .1 h) ∙ takes s e none
+    first-kept s same (x ∷ before) later e none h earlier =
+        let out : is (gives (brings (placeOf s) x)) ≡ false =
+        cases (is (gives (brings (placeOf s) x))) (λ t. absurd (earlier (x, List·Memᴰ·head refl, same x .0 t))) (λ t. t) in
+        first-kept (after s x) same before later e (ap is (takes s x none) ∙ out) h (λ some. earlier (some-later x before some))
 
-  -- what is kept is what the first event brought
-  pub first-exactly : {A : Type 0} (is : A → Bool) (none : A) (only : (a : A) → is a ≡ false → a ≡ none) (keeps : Status → A) (gives : Brought → A)
-      → ((s : Status) (e : Event) → keeps (after s e) ≡ cond (is (keeps s)) (keeps s) (gives (brings (placeOf s) e)))
-      → is none ≡ false → keeps (fresh p) ≡ none
-      → (P : Event → Type 0) → ((e : Event) → (is (gives (brings p e)) ≡ true) ↔ P e)
-      → (a : A) → is a ≡ true → (keeps (end p events) ≡ a) ↔ ((e : Event) × First P events e × (gives (brings p e) ≡ a))
-  first-exactly {A = A} is none only keeps gives once out clear P same a there =
-      let f : Event → A = λ e. gives (brings p e) in
-      let end-is : keeps (afterAll (fresh p) events) ≡ firstIn is f none events =
-      all-first is none only keeps gives once (fresh p) events
-      ∙ ap (λ (x : A). cond (is x) x (firstIn is f none events)) clear
-      ∙ ap (λ (b : Bool). cond b none (firstIn is f none events)) out in
-      let back : (e : Event) → P e ↔ (is (f e) ≡ true) = λ e. (same e .1, same e .0) in (
-        λ t.
-            let r = found-first is f none out events a there (sym end-is ∙ t) in
-            (r .0, first-same {P = λ e. is (f e) ≡ true} {Q = P} same events (r .0) (r .1), r .2),
-        λ r.
-            let q = first-same {P = P} {Q = λ e. is (f e) ≡ true} back events (r .0) (r .1) in
-            end-is ∙ ap (firstIn is f none) (q .parts) ∙ first-found is f none (q .before) (q .after) (r .0) (q .holds) (q .earlier) ∙ r .2,
-      )
+    -- from a fresh status, which keeps nothing, in other words for what the event brought
+    pub first-exactly : (p : Place) (events : List Event) → is (keeps (fresh p)) ≡ false → ((e : Event) → (is (gives (brings p e)) ≡ true) ↔ P e)
+        → (a : A) → is a ≡ true → (Q : Event → Type 0) → ((e : Event) → (gives (brings p e) ≡ a) ↔ Q e)
+        → (keeps (end p events) ≡ a) ↔ ((e : Event) × First P events e × Q e)
+    first-exactly p events none same a there Q meant = (
+      λ k.
+          let r = kept-first (fresh p) same events a there none k in
+          (r .0, r .1, meant (r .0) .0 (r .2)),
+      λ r.
+          let f = r .1 in
+          ap (λ (l : List Event). keeps (afterAll (fresh p) l)) (f .parts)
+          ∙ first-kept (fresh p) same (f .before) (f .after) (r .0) none (f .holds) (f .earlier)
+          ∙ meant (r .0) .1 (r .2),
+    )

@@ -1,20 +1,20 @@
 -- The claims about the answers, from the statements alone.
 use Prim.Native.Nat.{ℕ}
-use mathlib.Core.Path.{_≡_, refl, sym, ap, ap₂, _∙_, subst}
+use mathlib.Core.Path.{_≡_, refl, sym, ap, ap₂, _∙_}
 use mathlib.Core.Bool.{cond}
 use lib.Dec.{eqb}
-use Rattle.refusal.specs.Refusal.{numbered, InOrder}
-use Rattle.refusal.proofs.FirstLaws.{first-in-order, if-refused}
+use Rattle.refusal.specs.Refusal.{numbered}
+use Rattle.refusal.proofs.FirstLaws.{told-in-order, if-refused}
+use Rattle.frame_claims.proofs.Answers.{one-answer}
 use Rattle.slot.specs.declared.status.Status.{Status}
 use Rattle.slot.specs.declared.opening.Opening.{Opening}
 use Rattle.slot.specs.declared.opening.Opening.the-variants.{Opened, SettingOutOfRange, NotAChannel, NotASlot, CycleTooHigh}
 use Rattle.slot.specs.Judging.{placeBy, fresh, noStatus}
-use Rattle.slot.specs.Opening.{openingRefusals, Told, told}
+use Rattle.slot.specs.Opening.{Told, told}
 use Rattle.slot_events.specs.declared.Recording.{Recording}
 use Rattle.slot_events.specs.declared.Recording.the-variants.{Recorded, NotSound}
 use Rattle.slot_events.specs.Effect.{after}
 use Rattle.slot_events.specs.Events as event
-use Rattle.slot_events.specs.Events.{eventRefusals}
 use Rattle.slot_claims.specs.Answers.{OpenOne, EventOne, OpenInOrder, EventInOrder, OpenRefused, EventRefused}
 
 -- ---- one result
@@ -37,7 +37,7 @@ opening-by CycleTooHigh = refl
 pub open-one : OpenOne
 open-one settings channel slot cycle r s hr hs =
     ap₂ (λ (a : Opening) (t : Status). record { answer = a; status = t })
-    (sym (opening-by (r .answer)) ∙ ap openingBy (hr .answers ∙ sym (hs .answers)) ∙ opening-by (s .answer)) (hr .leaves ∙ sym (hs .leaves))
+    (one-answer told openingBy opening-by (r .answer) (s .answer) (hr .answers) (hs .answers)) (hr .leaves ∙ sym (hs .leaves))
 
 recordingBy : ℕ → Recording
 recordingBy n = cond (eqb n 0) Recorded NotSound
@@ -50,19 +50,17 @@ recording-by NotSound = refl
 pub event-one : EventOne
 event-one status e r s hr hs =
     ap₂ (λ (a : Recording) (t : Status). record { answer = a; status = t })
-    (sym (recording-by (r .answer)) ∙ ap recordingBy (hr .answers ∙ sym (hs .answers)) ∙ recording-by (s .answer)) (hr .leaves ∙ sym (hs .leaves))
+    (one-answer event.told recordingBy recording-by (r .answer) (s .answer) (hr .answers) (hs .answers)) (hr .leaves ∙ sym (hs .leaves))
 
 -- ---- in order
 
 pub open-in-order : OpenInOrder
 unfolding numbered
-open-in-order settings channel slot cycle r h =
-    let l = openingRefusals settings channel slot cycle in
-    subst (InOrder l) (sym (ap (λ (t : Told). t .number) (h .answers))) (first-in-order l refl)
+open-in-order settings channel slot cycle r h = told-in-order _ refl (ap (λ (t : Told). t .number) (h .answers))
 
 pub event-in-order : EventInOrder
 unfolding numbered
-event-in-order status e r h = subst (InOrder (eventRefusals status)) (sym (h .answers)) (first-in-order (eventRefusals status) refl)
+event-in-order status e r h = told-in-order _ refl (h .answers)
 
 -- ---- a refusal
 

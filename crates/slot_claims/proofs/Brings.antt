@@ -1,10 +1,11 @@
 -- What one event brings, in the words of a history.
 use Prim.Native.Nat.{ℕ}
 use mathlib.Core.Path.{_≡_, refl, sym, ap, _∙_, subst}
-use mathlib.Core.Bool.{Bool, true, false, false≢true}
+use mathlib.Core.Bool.{true, false, false≢true, cond}
 use mathlib.Core.List.{List}
 use mathlib.Core.Logic.{_⊎_, inl, inr, _↔_}
 use borrow.Author.Tests.{eqb-true, not-false}
+use Rattle.numbers.proofs.Walk.{cases, cases-in, came}
 use Rattle.refusal.specs.Refusal.{first}
 use Rattle.header.specs.declared.Header.{Header}
 use Rattle.frame.specs.declared.Reading.the-variants.{Accepted}
@@ -12,7 +13,6 @@ use Rattle.frame.specs.Read as read
 use Rattle.frame.specs.Read.{headerRead, refusalsOn, ReadOnSays}
 use Rattle.slot.specs.declared.status.Reason.{Reason}
 use Rattle.slot.specs.declared.status.Reason.the-variants as reason
-use Rattle.slot.specs.declared.status.Kept.{Kept}
 use Rattle.slot.specs.declared.status.Kept.the-variants as kept
 use Rattle.slot.specs.Judging.{Place, firstMiss, isReason, isFrame}
 use Rattle.slot_events.specs.Effect.{Event, Brought, arrival, boundaryActivity, ownSending, keptBy, isRefused, ofArrival, brings}
@@ -28,35 +28,24 @@ abbrev EitherWay : Place → List ℕ → Type 0
 EitherWay p bytes = (isRefused (p .channel) bytes ≡ true) ⊎ ((h : Header) × ReadOnSays (p .channel) bytes (Accepted h))
 
 module _ (p : Place) (bytes : List ℕ) where
-  nothing-refused : isRefused (p .channel) bytes ≡ false → first (refusalsOn (p .channel) bytes) ≡ 0
-  nothing-refused e = eqb-true (first (refusalsOn (p .channel) bytes)) 0 (not-false _ e)
-
   -- the answer of reading where nothing is refused
   accepts : isRefused (p .channel) bytes ≡ false → ReadOnSays (p .channel) bytes (Accepted (headerRead bytes))
-  accepts e = sym (ap (λ (n : ℕ). read.rule n bytes) (nothing-refused e))
+  accepts e = sym (ap (λ (n : ℕ). read.rule n bytes) (eqb-true (first (refusalsOn (p .channel) bytes)) 0 (not-false _ e)))
 
   either-way : EitherWay p bytes
-  either-way = by (isRefused (p .channel) bytes) refl
-    where
-      by : (b : Bool) → isRefused (p .channel) bytes ≡ b → EitherWay p bytes
-      by true e = inl e
-      by false e = inr (headerRead bytes, accepts e)
+  either-way = cases (isRefused (p .channel) bytes) inl (λ t. inr (headerRead bytes, accepts t))
 
 -- ---- each kind of event
 
 -- arrived bytes are an arrival and nothing else
-only-arrival : (p : Place) (bytes : List ℕ)
-    → (brings p (arrival bytes) .arrived ≡ true) × (brings p (arrival bytes) .atBoundary ≡ false) × (brings p (arrival bytes) .sent ≡ false)
-only-arrival p bytes = by (either-way p bytes)
-  where
-    of : (refused : Bool) (r : Reason) (k : Kept) → brings p (arrival bytes) ≡ ofArrival refused r k
-        → (brings p (arrival bytes) .arrived ≡ true) × (brings p (arrival bytes) .atBoundary ≡ false) × (brings p (arrival bytes) .sent ≡ false)
-    of refused r k e = (ap (λ (b : Brought). b .arrived) e, ap (λ (b : Brought). b .atBoundary) e, ap (λ (b : Brought). b .sent) e)
+abbrev OnlyArrival : Brought → Type 0
+OnlyArrival b = (b .arrived ≡ true) × (b .atBoundary ≡ false) × (b .sent ≡ false)
 
-    by : EitherWay p bytes
-        → (brings p (arrival bytes) .arrived ≡ true) × (brings p (arrival bytes) .atBoundary ≡ false) × (brings p (arrival bytes) .sent ≡ false)
-    by (inl out) = of true reason.NoReason kept.Nothing (brings-refused p bytes out)
-    by (inr a) = of false (firstMiss p (a .0)) (keptBy (firstMiss p (a .0)) (a .0)) (brings-frame p bytes (a .0) (a .1))
+only-arrival : (p : Place) (bytes : List ℕ) → OnlyArrival (brings p (arrival bytes))
+only-arrival p bytes =
+    let miss = firstMiss p (headerRead bytes) in
+    cases-in (λ b. OnlyArrival (cond b (ofArrival true reason.NoReason kept.Nothing) (ofArrival false miss (keptBy miss (headerRead bytes)))))
+    (isRefused (p .channel) bytes) (λ t. (refl, refl, refl)) (λ t. (refl, refl, refl))
 
 pub arrives-exactly : (p : Place) (e : Event) → (brings p e .arrived ≡ true) ↔ Arrives e
 arrives-exactly p e = (there e, λ a. ap (λ (x : Event). brings p x .arrived) (a .1) ∙ only-arrival p (a .0) .0)
@@ -75,11 +64,9 @@ refused-exactly p e = (there e, back)
     there (arrival bytes) t = (bytes, refl, λ h says. false≢true (sym (ap (λ (b : Brought). b .refused) (brings-frame p bytes h says)) ∙ t))
 
     back : ArrivesRefused p e → brings p e .refused ≡ true
-    back f = ap (λ (x : Event). brings p x .refused) (f .1) ∙ by (either-way p (f .0))
-      where
-        by : EitherWay p (f .0) → brings p (arrival (f .0)) .refused ≡ true
-        by (inl out) = ap (λ (b : Brought). b .refused) (brings-refused p (f .0) out)
-        by (inr a) = absurd (f .2 (a .0) (a .1))
+    back f =
+        ap (λ (x : Event). brings p x .refused) (f .1)
+        ∙ came (either-way p (f .0)) (λ out. ap (λ (b : Brought). b .refused) (brings-refused p (f .0) out)) (λ a. absurd (f .2 (a .0) (a .1)))
 
 pub misses-exactly : (p : Place) (r : Reason) (e : Event) → isReason r ≡ true → (brings p e .reason ≡ r) ↔ ArrivesMissing p r e
 misses-exactly p r e is = (there e, back)
@@ -90,18 +77,12 @@ misses-exactly p r e is = (there e, back)
     there : (e : Event) → brings p e .reason ≡ r → ArrivesMissing p r e
     there boundaryActivity t = absurd (none t)
     there ownSending t = absurd (none t)
-    there (arrival bytes) t = by (either-way p bytes)
-      where
-        by : EitherWay p bytes → ArrivesMissing p r (arrival bytes)
-        by (inl out) = absurd (none (sym (ap (λ (b : Brought). b .reason) (brings-refused p bytes out)) ∙ t))
-        by (inr a) = (
-          bytes,
-          refl,
-          a .0,
-          a .1,
-          tests-exactly p (a .0) r .0 (sym (ap (λ (b : Brought). b .reason) (brings-frame p bytes (a .0) (a .1))) ∙ t),
-          reason-there r is,
-        )
+    there (arrival bytes) t =
+        came (either-way p bytes)
+        (λ out. absurd (none (sym (ap (λ (b : Brought). b .reason) (brings-refused p bytes out)) ∙ t)))
+        (λ a.
+        let missed = tests-exactly p (a .0) r .0 (sym (ap (λ (b : Brought). b .reason) (brings-frame p bytes (a .0) (a .1))) ∙ t) in
+        (bytes, refl, a .0, a .1, missed, reason-there r is))
 
     back : ArrivesMissing p r e → brings p e .reason ≡ r
     back m = ap (λ (x : Event). brings p x .reason) (m .1) ∙ ap (λ (b : Brought). b .reason) (brings-frame p (m .0) (m .2) (m .3))
@@ -113,17 +94,16 @@ passes-exactly p h e = (there e, back)
     there : (e : Event) → brings p e .kept ≡ kept.Frame h → ArrivesPassing p h e
     there boundaryActivity t = absurd (false≢true (ap isFrame t))
     there ownSending t = absurd (false≢true (ap isFrame t))
-    there (arrival bytes) t = by (either-way p bytes)
-      where
-        by : EitherWay p bytes → ArrivesPassing p h (arrival bytes)
-        by (inl out) = absurd (false≢true (ap isFrame (sym (ap (λ (b : Brought). b .kept) (brings-refused p bytes out)) ∙ t)))
-        by (inr a) =
-            let k = kept-frame (firstMiss p (a .0)) (a .0) h (sym (ap (λ (b : Brought). b .kept) (brings-frame p bytes (a .0) (a .1))) ∙ t) in (
-              bytes,
-              refl,
-              subst (λ (x : Header). ReadOnSays (p .channel) bytes (Accepted x)) (k .1) (a .1),
-              tests-exactly p h reason.NoReason .0 (ap (firstMiss p) (sym (k .1)) ∙ k .0),
-            )
+    there (arrival bytes) t =
+        came (either-way p bytes)
+        (λ out. absurd (false≢true (ap isFrame (sym (ap (λ (b : Brought). b .kept) (brings-refused p bytes out)) ∙ t))))
+        (λ a.
+        let k = kept-frame (firstMiss p (a .0)) (a .0) h (sym (ap (λ (b : Brought). b .kept) (brings-frame p bytes (a .0) (a .1))) ∙ t) in (
+          bytes,
+          refl,
+          subst (λ (x : Header). ReadOnSays (p .channel) bytes (Accepted x)) (k .1) (a .1),
+          tests-exactly p h reason.NoReason .0 (ap (firstMiss p) (sym (k .1)) ∙ k .0),
+        ))
 
     back : ArrivesPassing p h e → brings p e .kept ≡ kept.Frame h
     back m =

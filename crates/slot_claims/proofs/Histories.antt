@@ -2,10 +2,11 @@
 use mathlib.Core.Path.{_≡_, refl, sym, ap, _∙_, subst}
 use mathlib.Core.Bool.{Bool, true, false, not}
 use mathlib.Core.List.{List, [], _∷_, Memᴰ·cast}
-use mathlib.Core.Logic.{_↔_}
+use mathlib.Core.Logic.{_↔_, Iff·symm, Iff·trans}
 use Rattle.refusal.specs.Refusal.{first}
 use Rattle.refusal.proofs.FirstLaws.{first-skip, first-end, if-accepted}
 use Rattle.slot.specs.declared.status.Reason.the-variants as reason
+use Rattle.slot.specs.declared.status.Kept.{Kept}
 use Rattle.slot.specs.declared.status.Kept.the-variants as kept
 use Rattle.slot.specs.declared.status.Status.{Status}
 use Rattle.slot.specs.Judging.{Place, placeOf, placeBy, fresh, noStatus, isReason, isFrame, hasArrival}
@@ -13,8 +14,9 @@ use Rattle.slot.specs.Opening.{openingRefusals, Told}
 use Rattle.slot.specs.Sound.{sound}
 use Rattle.slot_events.specs.Effect.{Event, boundaryActivity, ownSending, brings, after}
 use Rattle.slot_events.specs.Events.{eventRefusals}
-use Rattle.slot_claims.specs.Histories.{Arrives, ArrivesRefused, Misses, PassesAll, Occurs, Some, History, HistoryOne, Calls, NoneRefused, Histories}
+use Rattle.slot_claims.specs.Histories.{Arrives, ArrivesRefused, ArrivesMissing, ArrivesPassing, Misses, PassesAll, Occurs, Some, History, HistoryOne, Calls, NoneRefused, Histories}
 use Rattle.numbers.proofs.Truth.{both-true, true-both, same-true}
+use Rattle.numbers.proofs.Walk.{cases}
 use Rattle.slot_claims.proofs.ReasonLaws.{reason-there, there-reason, no-reason, frame-there, no-frame}
 use Rattle.slot_claims.proofs.Sound.{Clauses, clauses}
 use Rattle.slot_claims.proofs.SoundCalls.{fits, has-after, after-sound, fresh-sound}
@@ -44,96 +46,72 @@ passes-all p e = (
 )
 
 module _ (p : Place) (good : sound (fresh p) ≡ true) (events : List Event) where
-  abbrev whole : Status
-  whole = end p events
-
-  whole-sound : sound whole ≡ true
-  whole-sound = all-sound (fresh p) events good
-
-  content-exactly : (whole .«content_error» ≡ true) ↔ Some (Misses p) events
-  content-exactly =
-      flag-exactly p events (λ s. s .«content_error») (λ b. isReason (b .reason)) (λ s e. refl) refl (Misses p) (misses-some p)
-
-  sent-exactly : (whole .«own_sending» ≡ true) ↔ Occurs ownSending events
+  sent-exactly : (end p events .«own_sending» ≡ true) ↔ Occurs ownSending events
   sent-exactly =
-      let f = flag-exactly p events (λ s. s .«own_sending») (λ b. b .sent) (λ s e. refl) refl (λ e. ownSending ≡ e) (sending-exactly p) in
-      let m = some-is ownSending events in
-      (λ t. m .0 (f .0 t), λ x. f .1 (m .1 x))
+      Iff·trans (flag-exactly (λ s. s .«own_sending») (λ b. b .sent) (λ s e. refl) (λ e. ownSending ≡ e) p events refl (sending-exactly p))
+      (some-is ownSending events)
 
-  arrived-exactly : (hasArrival whole ≡ true) ↔ Some Arrives events
+  arrived-exactly : (hasArrival (end p events) ≡ true) ↔ Some Arrives events
   arrived-exactly =
-      flag-exactly p events hasArrival (λ b. b .arrived) (λ s e. has-after s (brings (placeOf s) e) (fits (placeOf s) e)) refl Arrives (arrives-exactly p)
+      flag-exactly hasArrival (λ b. b .arrived) (λ s e. has-after s (brings (placeOf s) e) (fits (placeOf s) e)) Arrives p events refl (arrives-exactly p)
 
-  history : History p events whole
+  history : History p events (end p events)
   history =
       record {
         place = all-place (fresh p) events;
-        syntax = flag-exactly p events (λ s. s .«syntax_error») (λ b. b .refused) (λ s e. refl) refl (ArrivesRefused p) (refused-exactly p);
-        content = content-exactly;
+        syntax = flag-exactly (λ s. s .«syntax_error») (λ b. b .refused) (λ s e. refl) (ArrivesRefused p) p events refl (refused-exactly p);
+        content = flag-exactly (λ s. s .«content_error») (λ b. isReason (b .reason)) (λ s e. refl) (Misses p) p events refl (misses-some p);
         reason =
             λ r named.
             let is : isReason r ≡ true = there-reason r named in
-            let f =
-            first-exactly p events isReason reason.NoReason no-reason (λ s. s .reason) (λ b. b .reason) (λ s e. refl) refl refl (Misses p)
-            (misses-some p) r is in (
-              λ t. (f .0 t .0, f .0 t .1, misses-exactly p r (f .0 t .0) is .0 (f .0 t .2)),
-              λ m. f .1 (m .0, m .1, misses-exactly p r (m .0) is .1 (m .2)),
-            );
-        valid = flag-exactly p events (λ s. s .valid) (λ b. isFrame (b .kept)) (λ s e. refl) refl (PassesAll p) (passes-all p);
+            first-exactly isReason (λ s. s .reason) (λ b. b .reason) (λ s e. refl) (Misses p) p events refl (misses-some p) r is
+            (ArrivesMissing p r) (λ e. misses-exactly p r e is);
+        valid = flag-exactly (λ s. s .valid) (λ b. isFrame (b .kept)) (λ s e. refl) (PassesAll p) p events refl (passes-all p);
         kept =
             λ h.
-            let f =
-            first-exactly p events isFrame kept.Nothing no-frame (λ s. s .kept) (λ b. b .kept) (λ s e. refl) refl refl (PassesAll p)
-            (passes-all p) (kept.Frame h) refl in (
-              λ t. (f .0 t .0, f .0 t .1, passes-exactly p h (f .0 t .0) .0 (f .0 t .2)),
-              λ m. f .1 (m .0, m .1, passes-exactly p h (m .0) .1 (m .2)),
-            );
+            first-exactly isFrame (λ s. s .kept) (λ b. b .kept) (λ s e. refl) (PassesAll p) p events refl (passes-all p) (kept.Frame h) refl
+            (ArrivesPassing p h) (passes-exactly p h);
         boundary =
-            let f = flag-exactly p events (λ s. s .«boundary_violation») (λ b. b .atBoundary) (λ s e. refl) refl (λ e. boundaryActivity ≡ e) (boundary-exactly p) in
-            let m = some-is boundaryActivity events in
-            (λ t. m .0 (f .0 t), λ x. f .1 (m .1 x));
+            Iff·trans
+            (flag-exactly (λ s. s .«boundary_violation») (λ b. b .atBoundary) (λ s e. refl) (λ e. boundaryActivity ≡ e) p events refl (boundary-exactly p))
+            (some-is boundaryActivity events);
         sending = sent-exactly;
         conflict = (
           λ t.
-              let b = both-true (whole .«own_sending») (hasArrival whole) (sym (c .conflict) ∙ t) in
+              let b = both-true (end p events .«own_sending») (hasArrival (end p events)) (sym (c .conflict) ∙ t) in
               (sent-exactly .0 (b .0), arrived-exactly .0 (b .1)),
-          λ x. c .conflict ∙ true-both (whole .«own_sending») (hasArrival whole) (sent-exactly .1 (x .0)) (arrived-exactly .1 (x .1)),
+          λ x. c .conflict ∙ true-both (end p events .«own_sending») (hasArrival (end p events)) (sent-exactly .1 (x .0)) (arrived-exactly .1 (x .1)),
         );
       }
     where
-      c : Clauses whole
-      c = clauses whole whole-sound
+      c : Clauses (end p events)
+      c = clauses (end p events) (all-sound (fresh p) events good)
 
 -- ---- one status
 
 -- two flags that stand in the same case
 same-flag : {P : Type 0} (a b : Bool) → (a ≡ true) ↔ P → (b ≡ true) ↔ P → a ≡ b
-same-flag a b x y = same-true a b (λ e. y .1 (x .0 e), λ e. x .1 (y .0 e))
+same-flag a b x y = same-true a b (Iff·trans x (Iff·symm y))
+
+-- two things that are the same wherever one is there
+same-thing : {A : Type 0} (is : A → Bool) (none : A) → ((a : A) → is a ≡ false → a ≡ none) → (x y : A)
+    → ((a : A) → is a ≡ true → (x ≡ a) ↔ (y ≡ a)) → x ≡ y
+same-thing is none only x y same =
+    cases (is x) (λ tx. sym (same x tx .0 refl))
+    (λ tx. cases (is y) (λ ty. same y ty .1 refl) (λ ty. only x tx ∙ sym (only y ty)))
 
 module _ (p : Place) (events : List Event) (s t : Status) (hs : History p events s) (ht : History p events t) where
   same-reason : s .reason ≡ t .reason
-  same-reason = by (isReason (s .reason)) (isReason (t .reason)) refl refl
-    where
-      by : (a b : Bool) → isReason (s .reason) ≡ a → isReason (t .reason) ≡ b → s .reason ≡ t .reason
-      by true b es et =
-          let named = reason-there (s .reason) es in
-          sym (ht .reason (s .reason) named .1 (hs .reason (s .reason) named .0 refl))
-      by false true es et =
-          let named = reason-there (t .reason) et in
-          hs .reason (t .reason) named .1 (ht .reason (t .reason) named .0 refl)
-      by false false es et = no-reason (s .reason) es ∙ sym (no-reason (t .reason) et)
+  same-reason =
+      same-thing isReason reason.NoReason no-reason (s .reason) (t .reason)
+      (λ r is. Iff·trans (hs .reason r (reason-there r is)) (Iff·symm (ht .reason r (reason-there r is))))
 
   same-kept : s .kept ≡ t .kept
-  same-kept = by (isFrame (s .kept)) (isFrame (t .kept)) refl refl
-    where
-      by : (a b : Bool) → isFrame (s .kept) ≡ a → isFrame (t .kept) ≡ b → s .kept ≡ t .kept
-      by true b es et =
-          let f = frame-there (s .kept) es in
-          f .1 ∙ sym (ht .kept (f .0) .1 (hs .kept (f .0) .0 (f .1)))
-      by false true es et =
-          let f = frame-there (t .kept) et in
-          hs .kept (f .0) .1 (ht .kept (f .0) .0 (f .1)) ∙ sym (f .1)
-      by false false es et = no-frame (s .kept) es ∙ sym (no-frame (t .kept) et)
+  same-kept =
+      same-thing isFrame kept.Nothing no-frame (s .kept) (t .kept)
+      (λ k is.
+      let f = frame-there k is in
+      subst (λ (x : Kept). (s .kept ≡ x) ↔ (t .kept ≡ x)) (sym (f .1)) (Iff·trans (hs .kept (f .0)) (Iff·symm (ht .kept (f .0)))))
 
   same-status : s ≡ t
   same-status =
@@ -166,24 +144,15 @@ history-one p events s t hs ht = same-status p events s t hs ht
 -- ---- sequences of calls
 
 -- each call on a sound status is recorded, and leaves what its event leaves
-module _ (s : Status) (good : sound s ≡ true) where
-  none-refused : first (eventRefusals s) ≡ 0
-  none-refused = first-skip 23 _ (ap not good) ∙ first-end
-
-calls-after : (s : Status) (events : List Event) (t : Status) → sound s ≡ true → Calls s events t → t ≡ afterAll s events
+all-recorded : (s : Status) (events : List Event) (t : Status) → sound s ≡ true → (calls : Calls s events t)
+    → NoneRefused s events t calls × (t ≡ afterAll s events)
 unfolding afterAll
-calls-after s [] t good calls = sym calls
-calls-after s (e ∷ events) t good calls =
-    let same : calls .0 .status ≡ after s e = calls .1 .leaves ∙ if-accepted (first (eventRefusals s)) (after s e) s (none-refused s good) in
-    calls-after (after s e) events t (after-sound s e good) (subst (λ (x : Status). Calls x events t) same (calls .2))
-
-calls-recorded : (s : Status) (events : List Event) (t : Status) → sound s ≡ true → (calls : Calls s events t) → NoneRefused s events t calls
-calls-recorded s [] t good calls = tt
-calls-recorded s (e ∷ events) t good calls =
-    let same : calls .0 .status ≡ after s e = calls .1 .leaves ∙ if-accepted (first (eventRefusals s)) (after s e) s (none-refused s good) in (
-      calls .1 .answers ∙ none-refused s good,
-      calls-recorded (calls .0 .status) events t (ap sound same ∙ after-sound s e good) (calls .2),
-    )
+all-recorded s [] t good calls = (tt, sym calls)
+all-recorded s (e ∷ events) t good calls =
+    let none : first (eventRefusals s) ≡ 0 = first-skip 23 _ (ap not good) ∙ first-end in
+    let same : calls .0 .status ≡ after s e = calls .1 .leaves ∙ if-accepted (first (eventRefusals s)) (after s e) s none in
+    let rest = all-recorded (calls .0 .status) events t (ap sound same ∙ after-sound s e good) (calls .2) in
+    ((calls .1 .answers ∙ none, rest .0), rest .1 ∙ ap (λ (x : Status). afterAll x events) same)
 
 -- an accepted opening leaves a fresh status, which is sound
 pub histories : Histories
@@ -192,7 +161,6 @@ histories settings channel slot cycle opened says accepted events s calls =
     let none : first (openingRefusals settings channel slot cycle) ≡ 0 = sym (ap (λ (t : Told). t .number) (says .answers)) ∙ accepted in
     let good : sound (fresh p) ≡ true = fresh-sound settings channel slot cycle none in
     let is-fresh : opened .status ≡ fresh p = says .leaves ∙ if-accepted _ (fresh p) noStatus none in
-    let ends : s ≡ afterAll (fresh p) events = calls-after (fresh p) events s good (subst (λ (x : Status). Calls x events s) is-fresh calls) in (
-      calls-recorded (opened .status) events s (ap sound is-fresh ∙ good) calls,
-      subst (History p events) (sym ends) (history p good events),
-    )
+    let all = all-recorded (opened .status) events s (ap sound is-fresh ∙ good) calls in
+    let ends : s ≡ end p events = all .1 ∙ ap (λ (x : Status). afterAll x events) is-fresh in
+    (all .0, subst (History p events) (sym ends) (history p good events))

@@ -1,4 +1,3 @@
-pub mod FirstLaws
 pub mod ReasonLaws
 pub mod Answers
 pub mod Sheet

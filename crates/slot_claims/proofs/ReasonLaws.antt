@@ -1,7 +1,8 @@
 -- A reason and a frame are there or not.
 use mathlib.Core.Path.{_≡_, refl, sym, ap, _∙_}
-use mathlib.Core.Bool.{Bool, true, false, false≢true, cond}
+use mathlib.Core.Bool.{true, false, false≢true, cond}
 use mathlib.Core.Logic.{_⊎_, inl, inr}
+use Rattle.numbers.proofs.Walk.{cases-in, came}
 use Rattle.header.specs.declared.Header.{Header}
 use Rattle.slot.specs.declared.status.Reason.{Reason}
 use Rattle.slot.specs.declared.status.Reason.the-variants.{NoReason, OtherId, OtherCycle, OtherWords, SyncOrStartup, NullFrame}
@@ -22,18 +23,10 @@ pub reason-there : (r : Reason) → isReason r ≡ true → r ≡ NoReason → �
 reason-there r e none = false≢true (sym (ap isReason none) ∙ e)
 
 pub there-reason : (r : Reason) → (r ≡ NoReason → ⊥) → isReason r ≡ true
-there-reason r h = by (none-or-some r)
-  where
-    by : (r ≡ NoReason) ⊎ (isReason r ≡ true) → isReason r ≡ true
-    by (inl none) = absurd (h none)
-    by (inr some) = some
+there-reason r h = came (none-or-some r) (λ none. absurd (h none)) (λ some. some)
 
 pub no-reason : (r : Reason) → isReason r ≡ false → r ≡ NoReason
-no-reason r e = by (none-or-some r)
-  where
-    by : (r ≡ NoReason) ⊎ (isReason r ≡ true) → r ≡ NoReason
-    by (inl none) = none
-    by (inr some) = absurd (false≢true (sym e ∙ some))
+no-reason r e = came (none-or-some r) (λ none. none) (λ some. absurd (false≢true (sym e ∙ some)))
 
 pub frame-there : (k : Kept) → isFrame k ≡ true → (h : Header) × (k ≡ Frame h)
 frame-there Nothing e = absurd (false≢true e)
@@ -45,8 +38,7 @@ no-frame (Frame h) e = absurd (false≢true (sym e))
 
 -- a frame is kept where there is no reason, and only there
 pub kept-frame : (r : Reason) (h k : Header) → keptBy r h ≡ Frame k → (r ≡ NoReason) × (h ≡ k)
-kept-frame r h k e = by (isReason r) refl e
-  where
-    by : (b : Bool) → isReason r ≡ b → cond b Nothing (Frame h) ≡ Frame k → (r ≡ NoReason) × (h ≡ k)
-    by true some e = absurd (false≢true (ap isFrame e))
-    by false none e = (no-reason r none, cc)
+kept-frame r h k =
+    cases-in (λ b. cond b Nothing (Frame h) ≡ Frame k → (r ≡ NoReason) × (h ≡ k)) (isReason r)
+    (λ some e. absurd (false≢true (ap isFrame e)))
+    (λ none e. (no-reason r none, cc))

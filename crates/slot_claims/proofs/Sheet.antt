@@ -1,11 +1,14 @@
 -- The claims about the settings sheet: the walk over ranges and values, from any number on.
-use Prim.Native.Nat.{ℕ, zero, suc, _+_, _-_, _<_, _≤_}
+use Prim.Native.Nat.{ℕ, zero, suc, _+_, _-_, _<_}
 use mathlib.Core.Path.{_≡_, refl, sym, ap, _∙_}
-use mathlib.Core.Bool.{Bool, true, false, cond}
+use mathlib.Core.Bool.{Bool, true, false, false≢true, cond}
 use mathlib.Core.List.{List, [], _∷_}
 use mathlib.Core.Logic.{_⊎_, inl, inr, _↔_}
 use native.Mathlib.Omega.{arith}
+use borrow.Author.Tests.{ltb-true, ltb-false}
+use lib.Dec.{ltb}
 use lib.ListN.{length, getD}
+use Rattle.numbers.proofs.Walk.{cases, cases-in, came}
 use Rattle.settings.specs.declared.Range.{Range}
 use Rattle.settings.specs.declared.Settings.{Settings}
 use Rattle.settings.specs.Sheet.{field, _to_, ranges, within, firstOutside, firstOutOfRange}
@@ -15,85 +18,31 @@ use Rattle.slot_claims.specs.Sheet.{TypedSettings, TypedAgain, rangeOf, 
 fitsAt : List Range → List ℕ → ℕ → Bool
 fitsAt rs vs i = within (getD rs i (0 to 0)) (getD vs i 0)
 
--- ---- no value is out of its range
+-- Those before a place fit.
+abbrev FitBefore : List Range → List ℕ → ℕ → Type 0
+FitBefore rs vs n = (i : ℕ) → i < n → fitsAt rs vs i ≡ true
 
-none-fits : (m : ℕ) (rs : List Range) (vs : List ℕ) → length vs ≡ length rs → firstOutside (suc m) rs vs ≡ 0
-    → (i : ℕ) → i < length rs → fitsAt rs vs i ≡ true
+-- A walk that counts from m told 0, and all values fit, or it told where the first is that does not.
+abbrev Found : List Range → List ℕ → ℕ → ℕ → Type 0
+Found rs vs m told =
+    ((told ≡ 0) × FitBefore rs vs (length rs))
+    ⊎ ((i : ℕ) × (told ≡ m + i) × (i < length rs) × (fitsAt rs vs i ≡ false) × FitBefore rs vs i)
+
+found : (m : ℕ) (rs : List Range) (vs : List ℕ) → length vs ≡ length rs → Found rs vs m (firstOutside m rs vs)
 unfolding firstOutside fitsAt
-none-fits m [] vs long e i h = absurd (omega arith)
-none-fits m (r ∷ rs) [] long e i h = absurd (omega arith)
-none-fits m (r ∷ rs) (v ∷ vs) long e i h =
-    by (within r v) refl e (none-fits (suc m) rs vs (omega arith)) i h
+found m [] vs long = inl (refl, λ i h. absurd (omega arith))
+found m (r ∷ rs) [] long = absurd (omega arith)
+found m (r ∷ rs) (v ∷ vs) long =
+    let rest : Found rs vs (suc m) (firstOutside (suc m) rs vs) = found (suc m) rs vs (omega arith) in
+    cases-in (λ b. Found (r ∷ rs) (v ∷ vs) m (cond b (firstOutside (suc m) rs vs) m)) (within r v)
+    (λ t.
+    came rest (λ none. inl (none .0, more t (length rs) (none .1)))
+    (λ out. inr (suc (out .0), out .1 ∙ omega arith, omega (arith, out .2), out .3, more t (out .0) (out .4))))
+    (λ t. inr (0, omega arith, omega arith, t, λ j h. absurd (omega arith)))
   where
-    by : (b : Bool) → within r v ≡ b → cond b (firstOutside (suc (suc m)) rs vs) (suc m) ≡ 0
-        → (firstOutside (suc (suc m)) rs vs ≡ 0 → (i : ℕ) → i < length rs → fitsAt rs vs i ≡ true)
-        → (i : ℕ) → i < length (r ∷ rs) → fitsAt (r ∷ rs) (v ∷ vs) i ≡ true
-    by false w e rest i h = absurd (omega arith)
-    by true w e rest zero h = w
-    by true w e rest (suc i) h = rest e i (omega arith)
-
-all-fit : (m : ℕ) (rs : List Range) (vs : List ℕ) → length vs ≡ length rs → ((i : ℕ) → i < length rs → fitsAt rs vs i ≡ true)
-    → firstOutside m rs vs ≡ 0
-unfolding firstOutside fitsAt
-all-fit m [] vs long all = refl
-all-fit m (r ∷ rs) [] long all = refl
-all-fit m (r ∷ rs) (v ∷ vs) long all =
-    let here : within r v ≡ true = all 0 (omega arith) in
-    ap (λ (b : Bool). cond b (firstOutside (suc m) rs vs) m) here
-    ∙ all-fit (suc m) rs vs (omega arith) (λ i h. all (suc i) (omega arith))
-
--- ---- the first value out of its range
-
--- a number that is told is not below the first
-above : (m : ℕ) (rs : List Range) (vs : List ℕ) → (firstOutside m rs vs ≡ 0) ⊎ (m ≤ firstOutside m rs vs)
-unfolding firstOutside
-above m [] vs = inl refl
-above m (r ∷ rs) [] = inl refl
-above m (r ∷ rs) (v ∷ vs) = by (within r v) (above (suc m) rs vs)
-  where
-    by : (b : Bool) → (firstOutside (suc m) rs vs ≡ 0) ⊎ (suc m ≤ firstOutside (suc m) rs vs)
-        → (cond b (firstOutside (suc m) rs vs) m ≡ 0) ⊎ (m ≤ cond b (firstOutside (suc m) rs vs) m)
-    by true (inl e) = inl e
-    by true (inr h) = inr (omega arith)
-    by false s = inr (omega arith)
-
-first-out : (m : ℕ) (rs : List Range) (vs : List ℕ) → length vs ≡ length rs → (i : ℕ) → firstOutside (suc m) rs vs ≡ suc m + i
-    → (fitsAt rs vs i ≡ false) × ((j : ℕ) → j < i → fitsAt rs vs j ≡ true)
-unfolding firstOutside fitsAt
-first-out m [] vs long i e = absurd (omega arith)
-first-out m (r ∷ rs) [] long i e = absurd (omega arith)
-first-out m (r ∷ rs) (v ∷ vs) long i e =
-    by (within r v) refl i e (above (suc (suc m)) rs vs) (first-out (suc m) rs vs (omega arith))
-  where
-    low : (n : ℕ) → (n ≡ 0) ⊎ (suc (suc m) ≤ n) → n ≡ suc m + 0 → ⊥
-    low n (inl z) e = omega arith
-    low n (inr h) e = omega arith
-
-    earlier : within r v ≡ true → (i : ℕ) → ((j : ℕ) → j < i → fitsAt rs vs j ≡ true)
-        → (j : ℕ) → j < suc i → fitsAt (r ∷ rs) (v ∷ vs) j ≡ true
-    earlier w i rest zero h = w
-    earlier w i rest (suc j) h = rest j (omega arith)
-
-    by : (b : Bool) → within r v ≡ b → (i : ℕ) → cond b (firstOutside (suc (suc m)) rs vs) (suc m) ≡ suc m + i
-        → (firstOutside (suc (suc m)) rs vs ≡ 0) ⊎ (suc (suc m) ≤ firstOutside (suc (suc m)) rs vs)
-        → ((i : ℕ) → firstOutside (suc (suc m)) rs vs ≡ suc (suc m) + i
-        → (fitsAt rs vs i ≡ false) × ((j : ℕ) → j < i → fitsAt rs vs j ≡ true))
-        → (fitsAt (r ∷ rs) (v ∷ vs) i ≡ false) × ((j : ℕ) → j < i → fitsAt (r ∷ rs) (v ∷ vs) j ≡ true)
-    by false w zero e more rest = (w, λ j h. absurd (omega arith))
-    by false w (suc i) e more rest = absurd (omega arith)
-    by true w zero e more rest = absurd (low (firstOutside (suc (suc m)) rs vs) more e)
-    by true w (suc i) e more rest = (rest i (omega arith) .0, earlier w i (rest i (omega arith) .1))
-
-out-first : (m : ℕ) (rs : List Range) (vs : List ℕ) → length vs ≡ length rs → (i : ℕ) → i < length rs
-    → fitsAt rs vs i ≡ false → ((j : ℕ) → j < i → fitsAt rs vs j ≡ true) → firstOutside m rs vs ≡ m + i
-unfolding firstOutside fitsAt
-out-first m [] vs long i h out earlier = absurd (omega arith)
-out-first m (r ∷ rs) [] long i h out earlier = absurd (omega arith)
-out-first m (r ∷ rs) (v ∷ vs) long zero h out earlier = ap (λ (b : Bool). cond b (firstOutside (suc m) rs vs) m) out ∙ omega arith
-out-first m (r ∷ rs) (v ∷ vs) long (suc i) h out earlier =
-    let here : within r v ≡ true = earlier 0 (omega arith) in
-    let rest : firstOutside (suc m) rs vs ≡ suc m + i = out-first (suc m) rs vs (omega arith) i (omega arith) out (λ j k. earlier (suc j) (omega arith)) in
-    ap (λ (b : Bool). cond b (firstOutside (suc m) rs vs) m) here ∙ rest ∙ omega arith
+    more : within r v ≡ true → (n : ℕ) → FitBefore rs vs n → FitBefore (r ∷ rs) (v ∷ vs) (suc n)
+    more t n fit zero h = t
+    more t n fit (suc i) h = fit i (omega arith)
 
 -- ---- fields are counted from 1
 
@@ -108,24 +57,40 @@ module _ (s : Settings) (typed : TypedSettings s) where
       let e : suc i - 1 ≡ i = omega arith in
       ap (fitsAt ranges (s .fields)) (sym e) ∙ fits-field (suc i)
 
+  walk : Found ranges (s .fields) 1 (firstOutOfRange s)
+  walk = found 1 ranges (s .fields) typed
+
   sheet-none : (firstOutOfRange s ≡ 0) ↔ AllInRange s
   sheet-none = (
-    λ e number is. sym (fits-field number) ∙ none-fits 0 ranges (s .fields) typed e (number - 1) (omega arith),
-    λ all. all-fit 1 ranges (s .fields) typed (λ i h. at-place i ∙ all (suc i) (omega arith, omega arith)),
+    λ e number is.
+        came walk (λ none. sym (fits-field number) ∙ none .1 (number - 1) (omega arith)) (λ out. absurd (omega (arith, out .1))),
+    λ all.
+        came walk (λ none. none .0) (λ out. absurd (false≢true (sym (out .3) ∙ at-place (out .0) ∙ all (suc (out .0)) (omega arith, omega (arith, out .2))))),
   )
 
   sheet-first : (number : ℕ) → IsField number → (firstOutOfRange s ≡ number) ↔ FirstOut s number
   sheet-first number is = (
     λ e.
-        let found = first-out 0 ranges (s .fields) typed (number - 1) (e ∙ omega arith) in
+        came walk (λ none. absurd (omega (arith, none .0)))
+        (λ out.
+        let place : out .0 ≡ number - 1 = omega (arith, out .1) in
         record {
-          out = sym (fits-field number) ∙ found .0;
-          earlier = λ before field less. sym (fits-field before) ∙ found .1 (before - 1) (omega arith);
-        },
+          out = sym (fits-field number) ∙ ap (fitsAt ranges (s .fields)) (sym place) ∙ out .3;
+          earlier = λ before field less. sym (fits-field before) ∙ out .4 (before - 1) (omega arith);
+        }),
     λ f.
-        out-first 1 ranges (s .fields) typed (number - 1) (omega arith) (fits-field number ∙ f .out)
-        (λ j h. at-place j ∙ f .earlier (suc j) (omega arith, omega arith) (omega arith))
-        ∙ omega arith,
+        let out-here : fitsAt ranges (s .fields) (number - 1) ≡ false = fits-field number ∙ f .out in
+        came walk (λ none. absurd (false≢true (sym out-here ∙ none .1 (number - 1) (omega arith))))
+        (λ out.
+        cases (ltb (out .0) (number - 1))
+        (λ t.
+        let less = ltb-true (out .0) (number - 1) t in
+        absurd (false≢true (sym (out .3) ∙ at-place (out .0) ∙ f .earlier (suc (out .0)) (omega arith, omega (arith, out .2)) (omega arith))))
+        (λ t.
+        let most = ltb-false (out .0) (number - 1) t in
+        cases (ltb (number - 1) (out .0))
+        (λ u. absurd (false≢true (sym out-here ∙ out .4 (number - 1) (ltb-true (number - 1) (out .0) u))))
+        (λ u. out .1 ∙ omega (arith, ltb-false (number - 1) (out .0) u)))),
   )
 
 pub sheets : Sheets

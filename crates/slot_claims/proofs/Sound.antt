@@ -25,6 +25,7 @@ use Rattle.slot_claims.specs.Content.{Passes}
 use Rattle.slot_claims.proofs.ReasonLaws.{reason-there, there-reason, no-reason, frame-there}
 use Rattle.slot_claims.proofs.Content.{tests-exactly}
 use Rattle.numbers.proofs.Truth.{same-true, both-true, true-both, either-true, true-left, true-right}
+use Rattle.numbers.proofs.Walk.{came}
 use Rattle.slot_claims.proofs.Readable.{could-be-read-exactly}
 
 -- ---- the clauses of soundness
@@ -47,14 +48,10 @@ pub record Clauses (s : Status) : Type 0 where
 
 pub clauses : (s : Status) → sound s ≡ true → Clauses s
 clauses s e =
-    let c2 = exactlyWith (s .«content_error») (isReason (s .reason)) in
-    let c3 = exactlyWith (s .valid) (isFrame (s .kept)) in
-    let c4 = keepsWell (placeOf s) (s .kept) in
-    let c5 = exactlyWith (s .conflict) (s .«own_sending» && hasArrival s) in
-    let p1 = both-true (wouldOpen (placeOf s)) (c2 && (c3 && (c4 && c5))) e in
-    let p2 = both-true c2 (c3 && (c4 && c5)) (p1 .1) in
-    let p3 = both-true c3 (c4 && c5) (p2 .1) in
-    let p4 = both-true c4 c5 (p3 .1) in
+    let p1 = both-true (wouldOpen (placeOf s)) _ e in
+    let p2 = both-true (exactlyWith (s .«content_error») (isReason (s .reason))) _ (p1 .1) in
+    let p3 = both-true (exactlyWith (s .valid) (isFrame (s .kept))) _ (p2 .1) in
+    let p4 = both-true (keepsWell (placeOf s) (s .kept)) _ (p3 .1) in
     record {
       opens = p1 .0;
       content = exactly-same (s .«content_error») (isReason (s .reason)) (p2 .0);
@@ -65,24 +62,15 @@ clauses s e =
 
 pub clauses-sound : (s : Status) → Clauses s → sound s ≡ true
 clauses-sound s c =
-    let c2 = exactlyWith (s .«content_error») (isReason (s .reason)) in
-    let c3 = exactlyWith (s .valid) (isFrame (s .kept)) in
-    let c4 = keepsWell (placeOf s) (s .kept) in
-    let c5 = exactlyWith (s .conflict) (s .«own_sending» && hasArrival s) in
-    true-both (wouldOpen (placeOf s)) (c2 && (c3 && (c4 && c5))) (c .opens)
-    (true-both c2 (c3 && (c4 && c5)) (same-exactly (s .«content_error») (isReason (s .reason)) (c .content))
-    (true-both c3 (c4 && c5) (same-exactly (s .valid) (isFrame (s .kept)) (c .valid))
-    (true-both c4 c5 (c .keeps) (same-exactly (s .conflict) (s .«own_sending» && hasArrival s) (c .conflict)))))
+    true-both (wouldOpen (placeOf s)) _ (c .opens)
+    (true-both (exactlyWith (s .«content_error») (isReason (s .reason))) _ (same-exactly (s .«content_error») (isReason (s .reason)) (c .content))
+    (true-both (exactlyWith (s .valid) (isFrame (s .kept))) _ (same-exactly (s .valid) (isFrame (s .kept)) (c .valid))
+    (true-both (keepsWell (placeOf s) (s .kept)) _ (c .keeps) (same-exactly (s .conflict) (s .«own_sending» && hasArrival s) (c .conflict)))))
 
 -- ---- the rule is 01's sentence
 
 three : (s : Status) → hasArrival s ≡ true → (s .«syntax_error» ≡ true) ⊎ ((s .«content_error» ≡ true) ⊎ (s .valid ≡ true))
-three s e = later (either-true (s .«syntax_error») (s .«content_error» || s .valid) e)
-  where
-    later : (s .«syntax_error» ≡ true) ⊎ (s .«content_error» || s .valid ≡ true)
-        → (s .«syntax_error» ≡ true) ⊎ ((s .«content_error» ≡ true) ⊎ (s .valid ≡ true))
-    later (inl e) = inl e
-    later (inr e) = inr (either-true (s .«content_error») (s .valid) e)
+three s e = came (either-true (s .«syntax_error») (s .«content_error» || s .valid) e) inl (λ t. inr (either-true (s .«content_error») (s .valid) t))
 
 -- nothing is refused: opening answers so
 opens-so : (s : Status) → first (openingRefusals (s .settings) (numberOf (s .channel)) (s .slot) (s .cycle)) ≡ 0

@@ -1,13 +1,14 @@
 -- What each witness shows, from the statements of the entries that it calls.
 use Prim.Native.Nat.{ℕ, _+_, _-_, _<_, _≤_, min}
 use mathlib.Core.Path.{_≡_, refl, sym, ap, _∙_, subst}
-use mathlib.Core.Bool.{Bool, true, false}
+use mathlib.Core.Bool.{false}
 use mathlib.Core.List.{List, [], _∷_}
 use native.Mathlib.Omega.{arith}
 use borrow.Author.Tests.{leb-true, leb-false}
 use lib.Dec.{leb}
 use lib.ListN.{length, take, drop, length-drop, drop-of-length-le}
 use lib.Seq.{take-all, drop-drop}
+use Rattle.numbers.proofs.Walk.{cases}
 use Rattle.refusal.specs.Refusal.{first}
 use Rattle.refusal.proofs.FirstLaws.{if-accepted}
 use Rattle.header.specs.declared.Slot.{Slot}
@@ -32,17 +33,12 @@ use Rattle.slot_claims.proofs.Histories.{histories}
 
 -- ---- one call
 
-field-told : (settings : Settings) (channel : ℕ) (slot : Slot) (cycle : Cycle) (r : Opened) → TypedSettings settings
-    → OpenSays settings channel slot cycle r → FieldTold settings (told (r .answer) .field)
-field-told settings channel slot cycle r typed says =
-    subst (FieldTold settings) (sym (ap (λ (t : Told). t .field) (says .answers))) (sheets settings typed)
-
 pub opened-well : (settings : Settings) (channel : ℕ) (slot : Slot) (cycle : Cycle) (r : Opened) → TypedSettings settings
     → OpenSays settings channel slot cycle r → OpenedWell settings channel slot cycle r
 opened-well settings channel slot cycle r typed says =
     record {
       inOrder = open-in-order settings channel slot cycle r says;
-      field = field-told settings channel slot cycle r typed says;
+      field = subst (FieldTold settings) (sym (ap (λ (t : Told). t .field) (says .answers))) (sheets settings typed);
       accepted =
           λ e.
           let none : first (openingRefusals settings channel slot cycle) ≡ 0 = sym (ap (λ (t : Told). t .number) (says .answers)) ∙ e in (
@@ -69,11 +65,7 @@ left s (e ∷ events) = left (leftBy s e) events
 
 -- there is a result that the statement allows
 judged : (s : Status) (e : Event) → (r : Judged) × EventSays s e r
-judged s e = by (sound s) refl
-  where
-    by : (b : Bool) → sound s ≡ b → (r : Judged) × EventSays s e r
-    by true good = (_, laws.event-recorded s e (after s e) good refl)
-    by false bad = (_, laws.event-refused s e bad)
+judged s e = cases (sound s) (λ good. (_, laws.event-recorded s e (after s e) good refl)) (λ bad. (_, laws.event-refused s e bad))
 
 left-calls : (s : Status) (events : List Event) → Calls s events (left s events)
 unfolding left
@@ -108,30 +100,27 @@ was-played settings channel slot cycle r events s says end =
 
 -- ---- the bytes of one event
 
+-- no more than there are
+shorter : (size : ℕ) (l : List ℕ) → (take (min size (length l)) l ≡ take size l) × (drop (min size (length l)) l ≡ drop size l)
+shorter size l =
+    cases (leb size (length l))
+    (λ t.
+    let n : min size (length l) ≡ size = omega (arith, leb-true size (length l) t) in
+    (ap (λ (k : ℕ). take k l) n, ap (λ (k : ℕ). drop k l) n))
+    (λ t.
+    let h : length l < size = leb-false size (length l) t in (
+      take-all (min size (length l)) l (omega arith) ∙ sym (take-all size l (omega arith)),
+      drop-of-length-le l {i = min size (length l)} (omega arith) ∙ sym (drop-of-length-le l {i = size} (omega arith)),
+    ))
+
 -- a piece that begins at a place and has so many bytes, or as many as are left
 module _ (bytes : List ℕ) (at size : ℕ) (within : at ≤ length bytes) where
   pub piece : take (min (at + size) (length bytes) - at) (drop at bytes) ≡ take size (drop at bytes)
-  piece = by (leb (at + size) (length bytes)) refl
-    where
-      by : (b : Bool) → leb (at + size) (length bytes) ≡ b → take (min (at + size) (length bytes) - at) (drop at bytes) ≡ take size (drop at bytes)
-      by true e =
-          let h : at + size ≤ length bytes = leb-true (at + size) (length bytes) e in
-          let n : min (at + size) (length bytes) - at ≡ size = omega arith in
-          ap (λ (k : ℕ). take k (drop at bytes)) n
-      by false e =
-          let h : length bytes < at + size = leb-false (at + size) (length bytes) e in
-          take-all (min (at + size) (length bytes) - at) (drop at bytes) (omega (arith, length-drop at bytes))
-          ∙ sym (take-all size (drop at bytes) (omega (arith, length-drop at bytes)))
+  piece =
+      let n : min (at + size) (length bytes) - at ≡ min size (length (drop at bytes)) = omega (arith, length-drop at bytes) in
+      ap (λ (k : ℕ). take k (drop at bytes)) n ∙ shorter size (drop at bytes) .0
 
   pub behind : drop (min (at + size) (length bytes)) bytes ≡ drop size (drop at bytes)
-  behind = by (leb (at + size) (length bytes)) refl
-    where
-      by : (b : Bool) → leb (at + size) (length bytes) ≡ b → drop (min (at + size) (length bytes)) bytes ≡ drop size (drop at bytes)
-      by true e =
-          let h : at + size ≤ length bytes = leb-true (at + size) (length bytes) e in
-          let n : min (at + size) (length bytes) ≡ at + size = omega arith in
-          ap (λ (k : ℕ). drop k bytes) n ∙ sym (drop-drop size at bytes)
-      by false e =
-          let h : length bytes < at + size = leb-false (at + size) (length bytes) e in
-          drop-of-length-le bytes {i = min (at + size) (length bytes)} (omega arith)
-          ∙ sym (drop-of-length-le (drop at bytes) {i = size} (omega (arith, length-drop at bytes)))
+  behind =
+      let n : min (at + size) (length bytes) ≡ at + min size (length (drop at bytes)) = omega (arith, length-drop at bytes) in
+      ap (λ (k : ℕ). drop k bytes) n ∙ sym (drop-drop (min size (length (drop at bytes))) at bytes) ∙ shorter size (drop at bytes) .1

@@ -1,12 +1,13 @@
 -- What `write` writes, and its statement from the number that the order gives.
 use Prim.Native.Nat.{ℕ, suc, _+_, _/_, _≤_}
-use mathlib.Core.Path.{_≡_, refl, sym, ap, ap₂, _∙_}
-use mathlib.Core.Bool.{Bool, true, false, false≢true, _||_}
+use mathlib.Core.Path.{_≡_, sym, ap, ap₂, _∙_}
+use mathlib.Core.Bool.{false}
 use mathlib.Core.List.{List}
 use native.Mathlib.Nat.{add-comm}
 use native.Mathlib.Omega.{arith}
 use borrow.Author.Tests.{ltb-false}
 use lib.ListN.{length, length-append}
+use Rattle.numbers.proofs.Truth.{neither}
 use Rattle.refusal.specs.Refusal.{ifAccepted}
 use Rattle.division.specs.Bits.{odd, bits, bytesOf}
 use Rattle.division.proofs.BytesLaws.{length-bytes-of}
@@ -39,15 +40,6 @@ length-frame channel fields payload =
 
 -- ---- what is said
 
--- neither of two conditions holds
-pub or-first : (a b : Bool) → a || b ≡ false → a ≡ false
-or-first false b e = refl
-or-first true b e = absurd (false≢true (sym e))
-
-pub or-second : (a b : Bool) → a || b ≡ false → b ≡ false
-or-second false b e = e
-or-second true b e = absurd (false≢true (sym e))
-
 -- a refusal with its number, and the output as it was
 pub write-refused : (channel : ℕ) (fields : Fields) (payload output : List ℕ) (answer : Writing) (n : ℕ)
     → told answer ≡ refused (suc n) → refusal channel fields payload output ≡ suc n
@@ -73,4 +65,4 @@ write-accepted channel fields payload output after size e s w =
 
 -- a payload that is not refused has at most 254 bytes
 pub payload-at-most : (payload : List ℕ) → badPayload payload ≡ false → length payload ≤ 254
-payload-at-most payload e = ltb-false 254 (length payload) (or-second (odd (length payload)) _ e)
+payload-at-most payload e = ltb-false 254 (length payload) (neither (odd (length payload)) _ e .1)

@@ -9,8 +9,9 @@ use Rattle.bench_claims.proofs.has_room.Tie as tie
 
 returns : tie.Need-returns
 returns c =
+    let s : tie.Start = search needs in
     let line = c .before .line in
-    room-for-any (now (c .before .before .before .before .args .input)) (replicate 21 0) (line .last .1 .0) (line .result) refl (line .ensures .0)
+    room-for-any (now (s .args .input)) (replicate 21 0) (line .last .1 .0) (line .result) refl (line .ensures .0)
 
 pub has-room-spec : {M : Type 1} → statement M
 has-room-spec = tie.close (tie.spec (λ c. search needs) (λ c κs. search needs) returns)

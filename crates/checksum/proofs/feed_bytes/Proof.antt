@@ -45,11 +45,6 @@ feed-bytes-spec =
     (tie.spec
     Inv-loop
     μ-loop
-    (λ c. search needs)
-    (λ c. search needs)
-    cast-feed
-    (λ c κs. search needs)
-    (λ c. search needs)
-    (λ c. search needs)
-    loop-again
+    (λ c. search needs) (λ c. search needs) cast-feed
+    (λ c κs. search needs) (λ c. search needs) (λ c. search needs) loop-again
     returns)

@@ -10,9 +10,9 @@ use Rattle.checksum_claims.proofs.refused.Tie as tie
 
 returns : tie.Need-returns
 returns c =
-    let a = c .before .before .before .args in
+    let s : tie.Start = search needs in
     let r = c .before .frame-checksum in
-    ap (λ n. not (eqb n 0)) (c .number .ensures) ∙ refused-exactly (a .channel) (now (a .bytes)) (r .result) (r .ensures)
+    ap (λ n. not (eqb n 0)) (c .number .ensures) ∙ refused-exactly (s .args .channel) (now (s .args .bytes)) (r .result) (r .ensures)
 
 pub refused-spec : {M : Type 1} → statement M
 refused-spec = tie.close (tie.spec (λ c κs. search needs) (λ c κs. search needs) returns)

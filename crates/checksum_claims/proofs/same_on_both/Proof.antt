@@ -13,19 +13,17 @@ use Rattle.checksum_claims.proofs.same_on_both.Tie as tie
 
 returns : tie.Need-returns
 returns c =
-    let bytes = now (c .before .before .before .before .before .args .bytes) in
-    let a = c .before .before .before .frame-checksum in
-    let b = c .before .before .frame-checksum2 in
-    let va : c .before .value .result ≡ frameChecksum A bytes = c .before .value .ensures ∙ ap (λ r. told r .value) (on-a bytes (a .result) (a .ensures)) in
-    let vb : c .value2 .result ≡ frameChecksum B bytes = c .value2 .ensures ∙ ap (λ r. told r .value) (on-b bytes (b .result) (b .ensures)) in
+    let s : tie.Start = search needs in
+    let a : tie.After-frame-checksum = search needs in
+    let b : tie.After-frame-checksum2 = search needs in
+    let v : tie.After-value = search needs in
+    let bytes = now (s .args .bytes) in
+    let va : v .value .result ≡ frameChecksum A bytes = v .value .ensures ∙ ap (λ r. told r .value) (on-a bytes (a .frame-checksum .result) (a .frame-checksum .ensures)) in
+    let vb : c .value2 .result ≡ frameChecksum B bytes = c .value2 .ensures ∙ ap (λ r. told r .value) (on-b bytes (b .frame-checksum2 .result) (b .frame-checksum2 .ensures)) in
     ne-eqb _ _ (λ e. channels-apart bytes (sym va ∙ e ∙ vb))
 
 pub same-on-both-spec : {M : Type 1} → statement M
 same-on-both-spec =
     tie.close
     (tie.spec
-    (λ c κs. search needs)
-    (λ c κs. search needs)
-    (λ c κs. search needs)
-    (λ c κs. search needs)
-    returns)
+    (λ c κs. search needs) (λ c κs. search needs) (λ c κs. search needs) (λ c κs. search needs) returns)

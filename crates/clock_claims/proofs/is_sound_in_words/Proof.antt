@@ -3,17 +3,13 @@ use borrow.Author.Needs.{needs}
 use Rattle.clock_claims.proofs.is_sound_in_words.Statement.{statement}
 use Rattle.clock_claims.proofs.is_sound_in_words.Tie as tie
 use Rattle.numbers.proofs.Walk.{length-of-mapped}
-use Rattle.slot_claims.specs.Sheet.{TypedSettings}
-use Rattle.clock_claims.specs.Typed.{TypedList, TypedClock}
+use Rattle.clock_claims.specs.Typed.{TypedClock}
+use Rattle.clock_claims.proofs.Typed.{typed-by}
 use mathlib.Core.Path.{sym, _∙_}
 use Rattle.clock_claims.proofs.Sound.{sound-exactly}
 
 typed : (c : tie.Start) → TypedClock (c .args .state)
-typed c =
-    let settings : TypedSettings (c .args .state .settings) = search needs in
-    let even : TypedList (c .args .state .even) = search (needs, length-of-mapped) in
-    let odd : TypedList (c .args .state .odd) = search (needs, length-of-mapped) in
-    record { settings = settings; even = even; odd = odd }
+typed c = search (needs, length-of-mapped, typed-by)
 
 returns : tie.Need-returns
 returns c =

@@ -2,10 +2,9 @@
 use borrow.Author.Needs.{needs}
 use Rattle.clock_claims.proofs.played.Statement.{statement}
 use Rattle.clock_claims.proofs.played.Tie as tie
-use Rattle.clock_claims.proofs.played.Reads as reads
 use Prim.Native.Nat.{ℕ, _+_, _-_, _^_, _≤_, _<_}
 use mathlib.Core.Path.{_≡_, refl, sym, ap, subst, _∙_}
-use mathlib.Core.List.{List, [], _∷_, _++_, map-append}
+use mathlib.Core.List.{List, [], _∷_, _++_, map, map-append}
 use native.Mathlib.Nat.{le-antisymm}
 use native.Mathlib.Numerals.{add-one}
 use native.Mathlib.Omega.{arith}
@@ -29,43 +28,33 @@ room c = omega arith
 loop-holds : tie.Need-loop-holds Inv-loop μ-loop
 loop-holds c = (omega arith, ([], (refl, sym (c .none .ensures))))
 
-mul-number : tie.Need-mul-number Inv-loop μ-loop
-mul-number c = omega arith
-
-shared-slice-read-number : tie.Need-shared-slice-read-number Inv-loop μ-loop
-shared-slice-read-number c = omega arith
-
 add-i : tie.Need-add-i Inv-loop μ-loop
 add-i c = omega (arith, room (c .before .before))
 
-loop-less : tie.Need-loop-less Inv-loop μ-loop
-loop-less c = omega arith
-
 loop-again : tie.Need-loop-again Inv-loop μ-loop
 loop-again c =
-    let l = c .before .before .before .loop in
-    let a = c .before .before .before .before .before .before .args in
-    let numbers = now (a .numbers) in
-    let t : l .i < length numbers = c .before .before .loop-test .taken in
+    let turn : tie.In-loop Inv-loop μ-loop = search needs in
+    let start : tie.Start Inv-loop μ-loop = search needs in
+    let l = turn .before .loop in
+    let numbers = now (start .args .numbers) in
+    let call = callOf (start .args .sheet) (start .args .other-sheet) (start .args .status) (start .args .other-status) in
     let number = getD numbers (l .i) 0 in
     let one = c .called .ensures in
-    let calls : callsOf (a .sheet) (a .other-sheet) (a .status) (a .other-status) (take (l .i + 1) numbers)
-    ≡ callsOf (a .sheet) (a .other-sheet) (a .status) (a .other-status) (take (l .i) numbers) ++ (callOf (a .sheet) (a .other-sheet) (a .status) (a .other-status) number ∷ []) =
-    rw (add-one, take-suc numbers (l .i) 0 t) (map-append (callOf (a .sheet) (a .other-sheet) (a .status) (a .other-status)) (take (l .i) numbers) (number ∷ [])) in (
+    let calls : map call (take (l .i + 1) numbers) ≡ map call (take (l .i) numbers) ++ (call number ∷ []) =
+    rw (add-one, take-suc numbers (l .i) 0 (turn .loop-test .taken)) (map-append call (take (l .i) numbers) (number ∷ [])) in (
       omega arith,
       subst (λ (k : List Call). MadeBy k (c .called .result)) (sym calls)
-          (made-more (callsOf (a .sheet) (a .other-sheet) (a .status) (a .other-status) (take (l .i) numbers)) (l .state)
-          (callOf (a .sheet) (a .other-sheet) (a .status) (a .other-status) number) (one .0) (c .called .result) (l .inv .1) (one .1)),
+          (made-more (map call (take (l .i) numbers)) (l .state) (call number) (one .0) (c .called .result) (l .inv .1) (one .1)),
     )
 
 returns : tie.Need-returns Inv-loop μ-loop
 returns c =
+    let start : tie.Start Inv-loop μ-loop = search needs in
     let l = c .before .loop in
-    let a = c .before .before .before .before .args in
-    let numbers = now (a .numbers) in
+    let numbers = now (start .args .numbers) in
+    let call = callOf (start .args .sheet) (start .args .other-sheet) (start .args .status) (start .args .other-status) in
     let all : take (l .i) numbers ≡ numbers = ap (λ (n : ℕ). take n numbers) (le-antisymm (l .inv .0) (c .loop-test .left)) ∙ take-length numbers in
-    played-well (callsOf (a .sheet) (a .other-sheet) (a .status) (a .other-status) numbers) (l .state)
-    (subst (λ (k : List ℕ). MadeBy (callsOf (a .sheet) (a .other-sheet) (a .status) (a .other-status) k) (l .state)) all (l .inv .1))
+    played-well (map call numbers) (l .state) (subst (λ (k : List ℕ). MadeBy (map call k) (l .state)) all (l .inv .1))
 
 pub played-spec : {M : Type 1} → statement M
 played-spec =
@@ -73,12 +62,10 @@ played-spec =
     (tie.spec
     Inv-loop
     μ-loop
-    (λ c κs. search needs)
-    loop-holds
-    mul-number
-    shared-slice-read-number
-    (λ c κs. search needs)
-    add-i
-    loop-less
+    (λ c κs. search needs) loop-holds
+    (λ c. omega arith)
+    (λ c. omega arith)
+    (λ c κs. search needs) add-i
+    (λ c. omega arith)
     loop-again
     returns)

@@ -60,10 +60,7 @@ number-of-spec =
     μ-loop
     loop-holds
     mul-r
-    (λ c. search needs)
-    cast-r
+    (λ c. search needs) cast-r
     add-r
-    (λ c. search needs)
-    (λ c. search needs)
-    loop-again
+    (λ c. search needs) (λ c. search needs) loop-again
     returns)

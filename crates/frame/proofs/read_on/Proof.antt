@@ -159,17 +159,7 @@ read-on-spec =
     (λ c. search needs) (λ c. search needs) (λ c. search needs) (λ c κs. search needs) returns-4
     returns-5
     returns-6
-    (λ c κs. search needs)
-    returns-7
-    (λ c. search needs)
-    (λ c. search needs)
-    (λ c. search needs)
-    (λ c. search needs)
-    (λ c κs. search needs)
-    (λ c. search needs)
-    (λ c. search needs)
-    (λ c. search needs)
-    (λ c κs. search needs)
-    (λ c. search needs)
-    returns-8
+    (λ c κs. search needs) returns-7
+    (λ c. search needs) (λ c. search needs) (λ c. search needs) (λ c. search needs) (λ c κs. search needs)
+    (λ c. search needs) (λ c. search needs) (λ c. search needs) (λ c κs. search needs) (λ c. search needs) returns-8
     returns-9)

@@ -3,7 +3,6 @@ use mathlib.Core.Path.{sym, subst}
 use Prim.Native.Nat.{ℕ}
 use lib.Dec.{eqb}
 use denote.Ref.{now}
-use Rattle.division.specs.Bits.{AreBytes}
 use Rattle.frame_claims.specs.Exact.{AcceptsFrames}
 use Rattle.frame_claims.proofs.Witnesses.{accepts-frames}
 use borrow.Author.Needs.{needs}
@@ -12,11 +11,11 @@ use Rattle.frame_claims.proofs.accepts.Tie as tie
 
 returns : tie.Need-returns
 returns c =
-    let a = c .before .before .before .args in
-    let bytes = now (a .bytes) in
-    let are : AreBytes (bytes) = λ i. c .before .before .shared-slice-known .given i .fits in
-    subst (λ (n : ℕ). AcceptsFrames (a .channel) bytes (eqb n 0)) (sym (c .number .ensures))
-    (accepts-frames (a .channel) bytes (c .before .read .result) are (c .before .read .ensures))
+    let s : tie.Start = search needs in
+    let k : tie.After-shared-slice-known = search needs in
+    let r : tie.After-read = search needs in
+    subst (λ (n : ℕ). AcceptsFrames (s .args .channel) (now (s .args .bytes)) (eqb n 0)) (sym (c .number .ensures))
+    (accepts-frames (s .args .channel) (now (s .args .bytes)) (r .read .result) (λ i. k .shared-slice-known .given i .fits) (r .read .ensures))
 
 pub accepts-spec : {M : Type 1} → statement M
 accepts-spec = tie.close (tie.spec (λ c κs. search needs) (λ c κs. search needs) returns)

@@ -10,10 +10,10 @@ use Rattle.frame_claims.proofs.read_number.Tie as tie
 
 returns : tie.Need-returns
 returns c =
-    let a = c .before .before .before .args in
-    let r = c .before .read in
-    subst (InOrder (refusals (a .channel) (now (a .bytes)))) (sym (c .number .ensures))
-    (read-in-order (a .channel) (now (a .bytes)) (r .result) (r .ensures))
+    let s : tie.Start = search needs in
+    let r : tie.After-read = search needs in
+    subst (InOrder (refusals (s .args .channel) (now (s .args .bytes)))) (sym (c .number .ensures))
+    (read-in-order (s .args .channel) (now (s .args .bytes)) (r .read .result) (r .read .ensures))
 
 pub read-number-spec : {M : Type 1} → statement M
 read-number-spec = tie.close (tie.spec (λ c κs. search needs) (λ c κs. search needs) returns)

@@ -7,10 +7,11 @@ use Rattle.frame_claims.proofs.reread.Tie as tie
 
 returns : tie.Need-returns
 returns c =
-    let s = c .before .before .before in
-    let a = s .before .before .before .before .args in
-    let r = c .before .before .read in
-    was-reread (a .channel) (a .fields) (now (a .payload)) (now (a .output)) (now (s .sent .result)) (r .result) (s .sent .ensures) (r .ensures)
+    let s : tie.Start = search needs in
+    let w : tie.After-sent = search needs in
+    let r : tie.After-read = search needs in
+    was-reread (s .args .channel) (s .args .fields) (now (s .args .payload)) (now (s .args .output)) (now (w .sent .result)) (r .read .result)
+    (w .sent .ensures) (r .read .ensures)
 
 pub reread-spec : {M : Type 1} → statement M
 reread-spec = tie.close (tie.spec (λ c κs. search needs) (λ c κs. search needs) (λ c. search needs) returns)

@@ -7,10 +7,10 @@ use Rattle.frame_claims.proofs.reread_payload.Tie as tie
 
 returns : tie.Need-returns
 returns c =
-    let s = c .before in
-    let a = s .before .before .before .args in
-    payload-reread (a .channel) (a .fields) (now (a .payload)) (now (a .output)) (now (s .sent .result)) (now (c .payload .result)) (s .sent .ensures)
-    (c .payload .ensures .0)
+    let s : tie.Start = search needs in
+    let w : tie.After-sent = search needs in
+    payload-reread (s .args .channel) (s .args .fields) (now (s .args .payload)) (now (s .args .output)) (now (w .sent .result)) (now (c .payload .result))
+    (w .sent .ensures) (c .payload .ensures .0)
 
 pub reread-payload-spec : {M : Type 1} → statement M
 reread-payload-spec = tie.close (tie.spec (λ c κs. search needs) (λ c κs. search needs) returns)

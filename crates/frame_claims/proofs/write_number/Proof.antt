@@ -10,8 +10,9 @@ use Rattle.frame_claims.proofs.write_number.Tie as tie
 
 returns : tie.Need-returns
 returns c =
-    let w = c .before .before .before in
-    let a = w .before .before .before .before .args in
+    let s : tie.Start = search needs in
+    let w : tie.After-write = search needs in
+    let a = s .args in
     let payload = now (a .payload) in
     let output = now (a .output) in
     let after = w .write .last .1 .1 .1 .0 in (

@@ -114,12 +114,10 @@ is-sound-spec =
     Inv-loop
     μ-loop
     returns
-    (λ c κs. search needs)
-    loop-holds
+    (λ c κs. search needs) loop-holds
     (λ c. omega arith)
     (λ c. omega arith)
-    (λ c κs. search needs)
-    returns-2
+    (λ c κs. search needs) returns-2
     loop2-holds
     (λ c. omega arith)
     (λ c. omega arith)

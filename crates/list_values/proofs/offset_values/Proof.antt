@@ -53,13 +53,10 @@ offset-values-spec =
     (tie.spec
     Inv-loop
     μ-loop
-    (λ c κs. search needs)
-    loop-holds
+    (λ c κs. search needs) loop-holds
     (λ c. omega arith)
     (λ c. omega arith)
-    (λ c κs. search needs)
-    (λ c κs. search needs)
-    lay-requires
+    (λ c κs. search needs) (λ c κs. search needs) lay-requires
     (λ c. omega arith)
     (λ c. omega arith)
     loop-again

@@ -107,13 +107,10 @@ rate-values-spec =
     μ-loop2
     Inv-loop
     μ-loop
-    (λ c κs. search needs)
-    (λ c κs. search needs)
-    loop-holds
+    (λ c κs. search needs) (λ c κs. search needs) loop-holds
     (λ c. omega arith)
     (λ c. omega arith)
-    (λ c κs. search needs)
-    loop2-holds
+    (λ c κs. search needs) loop2-holds
     (λ c. omega arith)
     (λ c. omega arith)
     (λ c. omega arith)
@@ -121,10 +118,7 @@ rate-values-spec =
     (λ c. omega arith)
     (λ c. omega arith)
     loop2-again
-    (λ c κs. search needs)
-    (λ c κs. search needs)
-    (λ c κs. search needs)
-    lay-requires
+    (λ c κs. search needs) (λ c κs. search needs) (λ c κs. search needs) lay-requires
     (λ c. omega arith)
     (λ c. omega arith)
     loop-again

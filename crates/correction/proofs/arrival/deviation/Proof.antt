@@ -78,12 +78,7 @@ pub deviation-spec : {M : Type 1} → statement M
 deviation-spec =
     tie.close
     (tie.spec
-    (λ c. search needs)
-    (λ c. search needs)
-    sub-sent
-    (λ c. search needs)
-    sub-sent-2
-    (λ c. search needs)
-    sub-wide
-    (λ c κs. search needs)
-    returns)
+    (λ c. search needs) (λ c. search needs) sub-sent
+    (λ c. search needs) sub-sent-2
+    (λ c. search needs) sub-wide
+    (λ c κs. search needs) returns)

@@ -86,8 +86,7 @@ damped-spec =
     tie.close
     (tie.spec
     cast-rate
-    (λ c. search needs)
-    sub-t6
+    (λ c. search needs) sub-t6
     cast-t7
     returns
     sub-if2

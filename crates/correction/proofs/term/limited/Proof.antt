@@ -6,7 +6,7 @@ use Prim.Native.Nat.{_<_, _^_}
 use mathlib.Core.Path.{_≡_}
 use mathlib.Core.Bool.{true, false}
 use native.Mathlib.Omega.{arith}
-use lib.IntN.{pos, negℤ, _+ℤ_, +ℤ-idl}
+use lib.IntN.{pos, negℤ, +ℤ-idl}
 use lib.Signed.{ltZ}
 use mir.Syntax.{w32}
 use mir.Val.{SFits}

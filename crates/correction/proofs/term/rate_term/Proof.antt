@@ -79,13 +79,9 @@ pub rate-term-spec : {M : Type 1} → statement M
 rate-term-spec =
     tie.close
     (tie.spec
-    (λ c κs. search needs)
-    returns
+    (λ c κs. search needs) returns
     middle-requires
     cast-wide
     cast-wide-2
     add-wide
-    (λ c κs. search needs)
-    (λ c κs. search needs)
-    (λ c κs. search needs)
-    returns-2)
+    (λ c κs. search needs) (λ c κs. search needs) (λ c κs. search needs) returns-2)

@@ -40,14 +40,7 @@ pub difference-spec : {M : Type 1} → statement M
 difference-spec =
     tie.close
     (tie.spec
-    (λ c. search needs)
-    (λ c. search needs)
-    (λ c. search needs)
-    (λ c. search needs)
-    (λ c. search needs)
-    (λ c. search needs)
-    cast-wide
+    (λ c. search needs) (λ c. search needs) (λ c. search needs) (λ c. search needs) (λ c. search needs) (λ c. search needs) cast-wide
     cast-wide-2
     sub-wide
-    (λ c κs. search needs)
-    returns-3)
+    (λ c κs. search needs) returns-3)

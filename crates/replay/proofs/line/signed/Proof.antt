@@ -63,12 +63,7 @@ signed-spec =
     tie.close
     (tie.spec
     cast-wide
-    (λ c. search needs)
-    (λ c κs. search needs)
-    sub-put-digits
+    (λ c. search needs) (λ c κs. search needs) sub-put-digits
     cast-put-digits
-    (λ c κs. search needs)
-    (λ c. search needs)
-    cast-decimal
-    (λ c κs. search needs)
-    (λ c. search needs))
+    (λ c κs. search needs) (λ c. search needs) cast-decimal
+    (λ c κs. search needs) (λ c. search needs))

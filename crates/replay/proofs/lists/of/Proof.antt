@@ -47,17 +47,14 @@ of-spec =
     (tie.spec
     Inv-loop
     μ-loop
-    (λ c κs. search needs)
-    loop-holds
+    (λ c κs. search needs) loop-holds
     add-row-of
     mul-row-of
     add-row-of-2
-    (λ c κs. search needs)
-    mul-rows
+    (λ c κs. search needs) mul-rows
     array-set-from-rows
     add-i
     loop-less
     loop-again
     array-read-t19
-    (λ c. search needs)
-    (λ c. search needs))
+    (λ c. search needs) (λ c. search needs))

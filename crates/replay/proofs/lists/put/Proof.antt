@@ -35,13 +35,10 @@ put-spec =
     (tie.spec
     Inv-loop
     μ-loop
-    (λ c κs. search needs)
-    loop-holds
-    (λ c. search needs)
-    mul-row
+    (λ c κs. search needs) loop-holds
+    (λ c. search needs) mul-row
     array-copy-out-row
-    (λ c κs. search needs)
-    add-i
+    (λ c κs. search needs) add-i
     loop-less
     loop-again
     (λ c. search needs))

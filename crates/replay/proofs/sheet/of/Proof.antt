@@ -43,8 +43,7 @@ of-spec =
     μ-loop
     loop-holds
     mul-long
-    (λ c κs. search needs)
-    mul-fields
+    (λ c κs. search needs) mul-fields
     array-write-fields
     add-i
     loop-less

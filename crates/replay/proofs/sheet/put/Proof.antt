@@ -41,11 +41,8 @@ put-spec =
     loop-holds
     mul-decimal
     array-read-decimal
-    (λ c. search needs)
-    (λ c κs. search needs)
-    add-i
+    (λ c. search needs) (λ c κs. search needs) add-i
     loop-less
     loop-again
     cast-decimal-2
-    (λ c κs. search needs)
-    (λ c. search needs))
+    (λ c κs. search needs) (λ c. search needs))

@@ -85,8 +85,7 @@ first-out-of-range-spec =
     array-copy-out-range
     mul-holds
     array-read-holds
-    (λ c κs. search needs)
-    returns
+    (λ c κs. search needs) returns
     add-i
     add-number
     loop-less

@@ -56,12 +56,8 @@ pub could-be-read-spec : {M : Type 1} → statement M
 could-be-read-spec =
     tie.close
     (tie.spec
-    (λ c κs. search needs)
-    returns
+    (λ c κs. search needs) returns
     returns-2
-    (λ c κs. search needs)
-    returns-3
-    (λ c κs. search needs)
-    returns-4
-    (λ c κs. search needs)
-    returns-5)
+    (λ c κs. search needs) returns-3
+    (λ c κs. search needs) returns-4
+    (λ c κs. search needs) returns-5)

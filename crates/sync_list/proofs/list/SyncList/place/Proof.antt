@@ -52,8 +52,7 @@ place-spec =
     (tie.spec
     Inv-loop
     μ-loop
-    (λ c κs. search needs)
-    loop-holds
+    (λ c κs. search needs) loop-holds
     (λ c. omega arith)
     (λ c. omega arith)
     returns

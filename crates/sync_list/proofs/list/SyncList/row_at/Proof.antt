@@ -36,9 +36,7 @@ pub row-at-spec : {M : Type 1} → statement M
 row-at-spec =
     tie.close
     (tie.spec
-    (λ c κs. search needs)
-    mul-result
+    (λ c κs. search needs) mul-result
     element-copy-out-result
     returns
-    (λ c κs. search needs)
-    returns-2)
+    (λ c κs. search needs) returns-2)
