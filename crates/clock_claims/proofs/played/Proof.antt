@@ -63,9 +63,7 @@ played-spec =
     Inv-loop
     μ-loop
     (λ c κs. search needs) loop-holds
-    (λ c. omega arith)
-    (λ c. omega arith)
+    (λ c. omega arith) (λ c. omega arith)
     (λ c κs. search needs) add-i
-    (λ c. omega arith)
-    loop-again
+    (λ c. omega arith) loop-again
     returns)

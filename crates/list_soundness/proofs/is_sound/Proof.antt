@@ -115,17 +115,10 @@ is-sound-spec =
     μ-loop
     returns
     (λ c κs. search needs) loop-holds
-    (λ c. omega arith)
-    (λ c. omega arith)
+    (λ c. omega arith) (λ c. omega arith)
     (λ c κs. search needs) returns-2
     loop2-holds
-    (λ c. omega arith)
-    (λ c. omega arith)
-    returns-3
-    (λ c. omega arith)
-    (λ c. omega arith)
-    loop2-again
-    (λ c. omega arith)
-    (λ c. omega arith)
-    loop-again
+    (λ c. omega arith) (λ c. omega arith) returns-3
+    (λ c. omega arith) (λ c. omega arith) loop2-again
+    (λ c. omega arith) (λ c. omega arith) loop-again
     returns-4)

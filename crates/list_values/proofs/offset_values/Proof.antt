@@ -54,10 +54,7 @@ offset-values-spec =
     Inv-loop
     μ-loop
     (λ c κs. search needs) loop-holds
-    (λ c. omega arith)
-    (λ c. omega arith)
+    (λ c. omega arith) (λ c. omega arith)
     (λ c κs. search needs) (λ c κs. search needs) lay-requires
-    (λ c. omega arith)
-    (λ c. omega arith)
-    loop-again
+    (λ c. omega arith) (λ c. omega arith) loop-again
     returns)

@@ -60,13 +60,10 @@ played-spec =
     μ-loop
     (λ c κs. search needs)
     (λ c. (omega arith, omega arith, refl))
-    (λ c. omega arith)
-    (λ c. omega arith)
-    (λ c κs. search needs)
+    (λ c. omega arith) (λ c. omega arith) (λ c κs. search needs)
     (λ c. omega (arith, c .«end-of» .ensures))
     (λ c. omega (arith, c .«end-of» .ensures))
     (λ c. omega (arith, c .«end-of» .ensures))
     (λ c κs. search needs) add-i
-    (λ c. omega arith)
-    loop-again
+    (λ c. omega arith) loop-again
     returns)

@@ -22,18 +22,6 @@ abbrev μ-loop : tie.MeasureT-loop
 loop-holds : tie.Need-loop-holds Inv-loop μ-loop
 loop-holds c = (omega arith, refl, refl)
 
-mul-range : tie.Need-mul-range Inv-loop μ-loop
-mul-range c = omega arith
-
-array-copy-out-range : tie.Need-array-copy-out-range Inv-loop μ-loop
-array-copy-out-range c = omega arith
-
-mul-holds : tie.Need-mul-holds Inv-loop μ-loop
-mul-holds c = omega arith
-
-array-read-holds : tie.Need-array-read-holds Inv-loop μ-loop
-array-read-holds c = omega arith
-
 -- one turn: what the test of this field says, the rule says
 turn : (c : tie.After-holds Inv-loop μ-loop)
     → firstOutside 1 table (c .before .before .before .before .before .args .self .fields)
@@ -55,15 +43,6 @@ turn c =
 returns : tie.Need-returns Inv-loop μ-loop
 returns c = sym (turn (c .before) ∙ rw (not-true (c .before .holds .result) (c .if1 .taken)))
 
-add-i : tie.Need-add-i Inv-loop μ-loop
-add-i c = omega arith
-
-add-number : tie.Need-add-number Inv-loop μ-loop
-add-number c = omega arith
-
-loop-less : tie.Need-loop-less Inv-loop μ-loop
-loop-less c = omega arith
-
 loop-again : tie.Need-loop-again Inv-loop μ-loop
 loop-again c = (omega arith, omega arith, turn (c .before) ∙ rw (not-false (c .before .holds .result) (c .if1 .left)))
 
@@ -81,13 +60,7 @@ first-out-of-range-spec =
     Inv-loop
     μ-loop
     loop-holds
-    mul-range
-    array-copy-out-range
-    mul-holds
-    array-read-holds
+    (λ c. omega arith) (λ c. omega arith) (λ c. omega arith) (λ c. omega arith)
     (λ c κs. search needs) returns
-    add-i
-    add-number
-    loop-less
-    loop-again
+    (λ c. omega arith) (λ c. omega arith) (λ c. omega arith) loop-again
     returns-2)

@@ -53,10 +53,6 @@ place-spec =
     Inv-loop
     μ-loop
     (λ c κs. search needs) loop-holds
-    (λ c. omega arith)
-    (λ c. omega arith)
-    returns
-    (λ c. omega arith)
-    (λ c. omega arith)
-    loop-again
+    (λ c. omega arith) (λ c. omega arith) returns
+    (λ c. omega arith) (λ c. omega arith) loop-again
     returns-2)
