@@ -2,15 +2,16 @@
 use Prim.Native.Nat.{ℕ, zero, suc, _<_}
 use mathlib.Core.Path.{_≡_, ap, _∙_}
 use mathlib.Core.Bool.{Bool, true, cond}
-use mathlib.Core.List.{List, _++_}
+use mathlib.Core.List.{List, [], _∷_, _++_}
 use native.Mathlib.Omega.{arith}
 use lib.Dec.{ltb}
-use lib.ListN.{length, take, drop, length-append}
+use lib.ListN.{length, take, length-append}
 use borrow.Author.Tests.{le-ltb, lt-ltb}
-use Rattle.frame.specs.Read.{headerRead, rule}
+use Rattle.refusal.specs.Refusal.{first}
+use Rattle.frame.specs.Read.{headerRead, tells, refusals}
 use Rattle.lent_bytes.specs.Over.{over}
-use Rattle.bench_line.specs.Line.{refusalOf, acceptedWord, refusedWord, behindSpace, lineFeed, lineBy, lineOf, front, longest, LineSays}
-use Rattle.bench_claims.proofs.Line.{front-decides, at-most-21}
+use Rattle.bench_line.specs.Line.{acceptedWord, refusedWord, behindSpace, lineFeed, lineBy, lineOf, front, longest, LineSays}
+use Rattle.bench_claims.proofs.Line.{front-decides, within-longest}
 
 pub says-by-front : (input before after : List ℕ) (size : ℕ) → LineSays (take front input) before after size → LineSays input before after size
 says-by-front input before after size s =
@@ -21,18 +22,22 @@ says-by-front input before after size s =
     }
 
 -- a line has at least its line feed
-line-some : (n : ℕ) (bytes : List ℕ) → 0 < length (lineBy (rule n bytes))
-line-some zero bytes =
+line-by : (n : ℕ) (bytes : List ℕ) → 0 < length (lineBy (tells n bytes))
+line-by zero bytes =
     let h = headerRead bytes in
     omega
     (arith, length-append (acceptedWord ++ behindSpace (h .id .0) ++ behindSpace (h .cycle .0) ++ behindSpace (h .words)) lineFeed)
-line-some (suc n) bytes = omega (arith, length-append (refusedWord ++ behindSpace (suc n)) lineFeed)
+line-by (suc n) bytes = omega (arith, length-append (refusedWord ++ behindSpace (suc n)) lineFeed)
+
+line-some : (input : List ℕ) → 0 < length (lineOf input)
+line-some [] = line-by 1 []
+line-some (channel ∷ bytes) = line-by (first (refusals channel bytes)) bytes
 
 -- output of the longest line's size takes every line
 pub taken-whole : (input before after : List ℕ) (size : ℕ) → length before ≡ longest → LineSays input before after size
     → (size ≡ length (lineOf input)) × (after ≡ over (lineOf input) before)
 taken-whole input before after size long s =
-    let room = le-ltb (length before) (length (lineOf input)) (omega (arith, at-most-21 input)) in (
+    let room = le-ltb (length before) (length (lineOf input)) (omega (arith, within-longest input)) in (
       s .answers ∙ ap (λ (b : Bool). cond b 0 (length (lineOf input))) room,
       s .writes ∙ ap (λ (b : Bool). cond b before (over (lineOf input) before)) room,
     )
@@ -40,5 +45,5 @@ taken-whole input before after size long s =
 pub room-for-any : (input before after : List ℕ) (size : ℕ) → length before ≡ longest → LineSays input before after size → ltb 0 size ≡ true
 room-for-any input before after size long s =
     let e = taken-whole input before after size long s .0 in
-    let some = line-some (refusalOf input) (drop 1 input) in
+    let some = line-some input in
     lt-ltb 0 size (omega arith)

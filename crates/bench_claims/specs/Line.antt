@@ -4,7 +4,8 @@ use mathlib.Core.Path.{_≡_}
 use mathlib.Core.Bool.{cond}
 use mathlib.Core.List.{List, [], _∷_}
 use lib.ListN.{length, take}
-use Rattle.checksum.specs.Channel.{notAChannel}
+use Rattle.header.specs.Layout.{longestFrame}
+use Rattle.base_types.specs.Channel.{notAChannel}
 use Rattle.bench_line.specs.Line.{refusedLine, lineOf, front, longest, LineSays}
 
 -- Any two results that the statement allows are equal: the size and the whole output.
@@ -21,15 +22,15 @@ NoInput = lineOf [] ≡ refusedLine 1
 -- "More than 263 input bytes: the channel is tested first, then refused 3."
 abbrev pub TooLong : Type 0
 TooLong =
-    (channel : ℕ) (bytes : List ℕ) → 262 < length bytes → lineOf (channel ∷ bytes) ≡ refusedLine (cond (notAChannel channel) 1 3)
+    (channel : ℕ) (bytes : List ℕ) → longestFrame < length bytes → lineOf (channel ∷ bytes) ≡ refusedLine (cond (notAChannel channel) 1 3)
 
 -- So what lies behind the first 264 bytes changes no line, and a program may leave it unread.
 abbrev pub FrontDecides : Type 0
 FrontDecides = (input : List ℕ) → lineOf (take front input) ≡ lineOf input
 
 -- The longest line is `accepted 2047 63 127` with its line feed.
-abbrev pub AtMost21 : Type 0
-AtMost21 = (input : List ℕ) → length (lineOf input) ≤ longest
+abbrev pub WithinLongest : Type 0
+WithinLongest = (input : List ℕ) → length (lineOf input) ≤ longest
 
 -- Neither number can be smaller: some input is told apart by the last byte of its front, and some line has that many bytes.
 abbrev pub FrontExact : Type 0

@@ -1,31 +1,29 @@
 -- Text put behind what stands in a buffer.
-use Prim.Native.Nat.{ℕ, _+_, _-_, _≤_}
+use Prim.Native.Nat.{ℕ, _+_, _≤_}
 use mathlib.Core.Path.{_≡_, sym, ap, _∙_}
 use mathlib.Core.List.{List, _++_, append-assoc}
 use native.Mathlib.Omega.{arith}
 use lib.ListN.{length, take, drop, length-append, length-drop}
 use lib.Seq.{length-take-le, take-at}
-use borrow.Rule.Slice.PartMut.{putMid}
 use Rattle.lent_bytes.specs.Over.{over}
-use Rattle.lent_bytes.proofs.OverLaws.{over-copied, lent-end}
+use Rattle.lent_bytes.specs.Putting.{putEnd, putAt}
+use Rattle.lent_bytes.proofs.PuttingLaws.{end-put, at-put}
 use Rattle.bench_line.specs.Putting.{Puts}
 
--- the end of the buffer was lent, and came back with the text copied to its front
-pub puts-copied : (text line part : List ℕ) (at size : ℕ) → at + length text ≤ length line → size ≡ length text
-    → part ≡ take (length text) text ++ drop (length text) (take (length line - at) (drop at line))
-    → Puts text at (at + size) line (putMid at (length line - at) line part)
+-- there is room for it
+pub puts-room : (text line after : List ℕ) (at end : ℕ) → at + length text ≤ length line → end ≡ putEnd at text line → after ≡ putAt at text line
+    → Puts text at end line after
 unfolding over
-puts-copied text line part at size h e p =
+puts-room text line after at end room e p =
     let tail : List ℕ = drop (length text) (drop at line) in
     let front : length (take at line) ≡ at = length-take-le at line (omega arith) in
-    let laid : putMid at (length line - at) line part ≡ (take at line ++ text) ++ tail =
-    lent-end at line text part (p ∙ over-copied text _)
-    ∙ sym (append-assoc (take at line) text tail) in
-    let start : length (take at line ++ text) ≡ at + size = length-append (take at line) text ∙ omega arith in (
-      ap (λ (n : ℕ). at + n) e,
+    let ends : end ≡ at + length text = e ∙ end-put at text line room in
+    let laid : after ≡ (take at line ++ text) ++ tail = p ∙ at-put at text line room ∙ sym (append-assoc (take at line) text tail) in
+    let start : length (take at line ++ text) ≡ end = length-append (take at line) text ∙ omega arith in (
+      ends,
       ap length laid ∙ length-append (take at line ++ text) tail
           ∙ omega (arith, start, length-drop (length text) (drop at line), length-drop at line),
-      ap (take (at + size)) laid ∙ take-at (take at line ++ text) tail (at + size) start,
+      ap (take end) laid ∙ take-at (take at line ++ text) tail end start,
     )
 
 -- one text, and another behind it

@@ -3,31 +3,28 @@ use Prim.Native.Nat.{ℕ, _+_}
 use mathlib.Core.Path.{_≡_}
 use mathlib.Core.Bool.{Bool, cond}
 use mathlib.Core.List.{List, [], _∷_, _++_}
-use lib.ListN.{length, drop}
+use lib.ListN.{length}
 use lib.Dec.{ltb}
-use Rattle.refusal.specs.Refusal.{first, ifAccepted}
+use Rattle.header.specs.Layout.{longestFrame}
+use Rattle.refusal.specs.Refusal.{ifAccepted}
 use Rattle.header.specs.declared.Header.{Header}
 use Rattle.frame.specs.declared.Reading.{Reading}
-use Rattle.frame.specs.Read.{Told, told, refusals, rule}
+use Rattle.frame.specs.Read.{Told, told, refused, rule}
 use Rattle.lent_bytes.specs.Over.{over}
 use Rattle.bench_line.specs.Decimal.{decimal}
 
 -- ---- the input
 
--- The refusal of an input, 0 for none: that of reading the bytes behind the first on the channel that the first one names. "No input
+-- What is right to say of an input: what reading says of the bytes behind the first, on the channel that the first one names. "No input
 -- counts as 1."
-abbrev pub refusalOf : List ℕ → ℕ
-refusalOf [] = 1
-refusalOf (channel ∷ bytes) = first (refusals channel bytes)
-
--- What is right to say of an input: its refusal and its header, as reading says them.
 abbrev pub readInput : List ℕ → Told
-readInput input = rule (refusalOf input) (drop 1 input)
+readInput [] = refused 1
+readInput (channel ∷ bytes) = rule channel bytes
 
--- How many bytes of an input tell its line: the channel byte, the 262 bytes of the longest frame, and one more ("more than 263 input
+-- How many bytes of an input tell its line: the channel byte, the longest frame, and one more ("more than 263 input
 -- bytes").
 abbrev pub front : ℕ
-front = 1 + 262 + 1
+front = 1 + longestFrame + 1
 
 -- ---- the line
 

@@ -14,8 +14,8 @@ use header::Header;
 // The longest line, `accepted 2047 63 127` and its line feed. Output of this size takes every line.
 pub const LONGEST: usize = 21;
 
-// How much of an input tells its line: a channel byte, the 262 bytes of the longest frame, and one more. What lies behind changes no line.
-pub const FRONT: usize = 264;
+// How much of an input tells its line: a channel byte, the longest frame, and one byte more. What lies behind changes no line.
+pub const FRONT: usize = 1 + Header::LONGEST_FRAME + 1;
 
 // Each returns a constant, which no contract can name, and so holds it to its rule (DECISIONS 108).
 fn longest() -> usize
@@ -41,10 +41,7 @@ pub fn line(input: &[u8], output: &mut [u8]) -> usize
 {
     let mut space = [0u8; ROOM];
     let size = put_line(&mut space[..], read_input(input));
-    if output.len() < size {
-        return 0;
-    }
-    bytes::copy(&space[0..size], output)
+    lent_bytes::put(output, 0, &space[0..size])
 }
 
 // Reads the frame behind the channel byte. No input names no channel.
@@ -104,10 +101,10 @@ fn put_decimal(line: &mut [u8], at: usize, number: u64) -> usize
     put(line, at, &digits[0..count])
 }
 
-// Puts text behind what stands before `at`, and answers where it ends.
+// Puts text, for which there is room, behind what stands before `at`, and answers where it ends.
 fn put(line: &mut [u8], at: usize, text: &[u8]) -> usize
     requires { ⌜ at + length (now text) ≤ length (now line) ⌝ }
     ensures { λ r. ⌜ Puts (now (text .entry)) at r (now (line .entry)) (now (line .exit)) ⌝ }
 {
-    at + bytes::copy(text, &mut line[at..])
+    lent_bytes::put(line, at, text)
 }

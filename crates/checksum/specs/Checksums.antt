@@ -5,8 +5,8 @@ use mathlib.Core.List.{List, [], _∷_, _++_}
 use Rattle.division.specs.Bits.{bits, bytesBits}
 use Rattle.division.specs.Division.{checksum}
 use Rattle.division.specs.Polynomial.{terms}
-use Rattle.checksum.specs.declared.Channel.{Channel}
-use Rattle.checksum.specs.Channel.{startOf}
+use Rattle.base_types.specs.declared.channel.Channel.{Channel}
+use Rattle.base_types.specs.Channel.{startOf}
 
 -- "x^11+x^9+x^8+x^7+x^2+1", without its top term: 0x385.
 abbrev pub headerPolynomial : ℕ

@@ -5,7 +5,7 @@ use mathlib.Core.List.{List, [], _∷_}
 use Rattle.refusal.specs.Refusal.{Line, _when_, first, ifAccepted}
 use Rattle.checksum.specs.declared.Checksum.{Checksum}
 use Rattle.checksum.specs.declared.Checksum.the-variants.{Value, NotAChannel}
-use Rattle.checksum.specs.Channel.{notAChannel, channelOf}
+use Rattle.base_types.specs.Channel.{notAChannel, channelOf}
 use Rattle.checksum.specs.Checksums.{frameChecksum}
 
 -- What an answer says in 01's numbers: the refusal number, 0 for none, and the checksum, 0 with a refusal.

@@ -1,82 +1,16 @@
-// The two checksums of a frame (document 01, "Frame layout") and the channel that the second depends on.
+// The two checksums of a frame (document 01, "Frame layout").
 //
-// Entry: `frame_checksum`, on a channel number and bytes. For the crates above: `Channel`, `Channel::named`,
-// `header_checksum` and `frame_checksum_on`. Both checksums come of one `step`, the loop body of document 002,
-// section 4.5.1, over any width.
+// Entry: `frame_checksum`, on a channel number and bytes. For the crates above: `header_checksum` and `frame_checksum_on`. Both
+// checksums come of one `step`, the loop body of document 002, section 4.5.1, over any width.
 ghost use mathlib.Core.Path.{_≡_};
 ghost use mathlib.Core.List.{[], _∷_};
 ghost use Prim.Native.Nat.{_<_, _≤_, _^_, min};
 ghost use Rattle.division.specs.Bits.{bits, bytesBits};
 ghost use Rattle.division.specs.Division.{Fed};
-ghost use Rattle.checksum.specs.declared.Channel.the-variants.{A as Channel·A, B as Channel·B};
-ghost use Rattle.checksum.specs.declared.Named.the-variants.{Is};
-ghost use Rattle.checksum.specs.Channel.{numberOf, startOf, namedBy};
 ghost use Rattle.checksum.specs.Checksums.{headerDivision, framePolynomial, frameChecksum};
 ghost use Rattle.checksum.specs.FrameChecksum.{told, FrameChecksumSays};
-
-pub enum Channel {
-    A,
-    B,
-}
-
-// What a number names.
-pub enum Named {
-    Is(Channel),
-    NotAChannel,
-}
-
-impl Channel {
-    // The frame checksum's start value on each channel. They differ, so that crossed channels are noticed.
-    pub const START_A: u32 = 0xFE_DCBA;
-
-    pub const START_B: u32 = 0xAB_CDEF;
-
-    // Each returns a constant, which no contract can name, and so holds it to its rule (DECISIONS 108).
-    fn start_a() -> u32
-        ensures { λ r. ⌜ r ≡ startOf Channel·A ⌝ }
-    {
-        Channel::START_A
-    }
-
-    fn start_b() -> u32
-        ensures { λ r. ⌜ r ≡ startOf Channel·B ⌝ }
-    {
-        Channel::START_B
-    }
-
-    pub fn start(self) -> u32
-        ensures { λ r. ⌜ (r ≡ startOf self) × (r < 2 ^ 24) ⌝ }
-    {
-        match self {
-            Channel::A => Channel::START_A,
-            Channel::B => Channel::START_B,
-        }
-    }
-
-    // A channel is a number here and in `number`, and nowhere else.
-    pub fn named(number: u8) -> Named
-        ensures { λ r. ⌜ r ≡ namedBy number ⌝ }
-    {
-        if number == 0 {
-            return Named::Is(Channel::A);
-        }
-        if number == 1 {
-            return Named::Is(Channel::B);
-        }
-        Named::NotAChannel
-    }
-
-    // The number that names this channel.
-    pub fn number(self) -> u8
-        ensures { λ r. ⌜ r ≡ numberOf self ⌝ }
-        ensures { λ r. ⌜ namedBy r ≡ Is self ⌝ }
-    {
-        match self {
-            Channel::A => 0,
-            Channel::B => 1,
-        }
-    }
-}
+use base_types::Channel;
+use base_types::Named;
 
 // What `frame_checksum` answers.
 pub enum Checksum {
@@ -146,8 +80,8 @@ fn feed(width: u32, polynomial: u32, register: u32, n: u64, count: u32) -> u32
     r
 }
 
-// The header checksum of a message: of the `count` low bits of a number, the most significant first. A header's message has 20.
-// Of more than 64, the 64 that there are.
+// The header checksum of a message: of the `count` low bits of a number, the most significant first, or of all 64 where `count` is more.
+// A header's message has 20.
 pub fn header_checksum(message: u64, count: u32) -> u16
     ensures { λ r. ⌜ r ≡ headerDivision (bits (min count 64) message) ⌝ }
 {

@@ -13,8 +13,8 @@ use Rattle.division.specs.Distance.{neverZero, neverApart}
 use Rattle.division.proofs.BitsLaws.{length-bits}
 use Rattle.division.proofs.FactsLaws.{facts}
 use Rattle.division.proofs.DifferingLaws.{differing-zero}
-use Rattle.checksum.specs.declared.Channel.the-variants.{A, B}
-use Rattle.checksum.specs.Channel.{startOf}
+use Rattle.base_types.specs.declared.channel.Channel.the-variants.{A, B}
+use Rattle.base_types.specs.Channel.{startOf}
 use Rattle.checksum.specs.Checksums.{headerPolynomial, framePolynomial}
 use Rattle.checksum_claims.specs.Checksums.{HeaderFacts, FrameFacts, HeaderTwenty, ChannelsApart, FramesFour, BurstExact, FourExact, HeaderCheckValue}
 

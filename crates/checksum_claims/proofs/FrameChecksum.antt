@@ -8,10 +8,10 @@ use lib.Dec.{eqb}
 use borrow.Author.Tests.{ne-eqb}
 use Rattle.refusal.specs.Refusal.{_when_, first, numbered}
 use Rattle.refusal.proofs.FirstLaws.{told-in-order}
-use Rattle.checksum.specs.declared.Channel.the-variants.{A, B}
+use Rattle.base_types.specs.declared.channel.Channel.the-variants.{A, B}
 use Rattle.checksum.specs.declared.Checksum.{Checksum}
 use Rattle.checksum.specs.declared.Checksum.the-variants.{Value, NotAChannel}
-use Rattle.checksum.specs.Channel.{notAChannel, channelOf}
+use Rattle.base_types.specs.Channel.{notAChannel, channelOf}
 use Rattle.checksum.specs.Checksums.{frameChecksum}
 use Rattle.checksum.specs.FrameChecksum.{Told, told}
 use Rattle.checksum_claims.specs.FrameChecksum.{OneAnswer, NumberInOrder, RefusedExactly, OnA, OnB, OnNeither}

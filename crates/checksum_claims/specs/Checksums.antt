@@ -6,13 +6,14 @@ use mathlib.Core.Path.{_≡_}
 use mathlib.Core.Bool.{Bool, true, false}
 use mathlib.Core.List.{List, [], _∷_}
 use lib.ListN.{length, replicate}
+use Rattle.header.specs.Layout.{longestFrame}
 use Rattle.division.specs.Bits.{bytesBits}
 use Rattle.division.specs.Division.{checksum}
 use Rattle.division.specs.Word.{word, EndsInChecksum}
 use Rattle.division.specs.Differing.{differing, firstDiffering, lastDiffering}
 use Rattle.division.specs.Facts.{Facts}
-use Rattle.checksum.specs.declared.Channel.the-variants.{A, B}
-use Rattle.checksum.specs.Channel.{startOf}
+use Rattle.base_types.specs.declared.channel.Channel.the-variants.{A, B}
+use Rattle.base_types.specs.Channel.{startOf}
 use Rattle.checksum.specs.Checksums.{headerPolynomial, headerStart, headerBits, framePolynomial, frameChecksum}
 
 -- Every fact of division holds for the header checksum, and for the frame checksum.
@@ -30,10 +31,10 @@ HeaderTwenty = (sync startup : Bool) (id words : ℕ) → length (headerBits syn
 abbrev pub ChannelsApart : Type 0
 ChannelsApart = (bytes : List ℕ) → frameChecksum A bytes ≡ frameChecksum B bytes → ⊥
 
--- Two different words of at most 262 bytes that end in their own frame checksum differ in at least four bits.
+-- Two different words of at most the longest frame's bits that end in their own frame checksum differ in at least four bits.
 abbrev pub FramesFour : Type 0
 FramesFour =
-    (start : ℕ) (x y : List Bool) → length x ≡ length y → length x ≤ 8 * 262 → (x ≡ y → ⊥)
+    (start : ℕ) (x y : List Bool) → length x ≡ length y → length x ≤ 8 * longestFrame → (x ≡ y → ⊥)
     → EndsInChecksum 24 framePolynomial start x → EndsInChecksum 24 framePolynomial start y
     → 4 ≤ differing x y
 

@@ -6,10 +6,10 @@ use mathlib.Core.Bool.{not}
 use mathlib.Core.List.{List}
 use lib.Dec.{eqb}
 use Rattle.refusal.specs.Refusal.{InOrder}
-use Rattle.checksum.specs.declared.Channel.the-variants.{A, B}
+use Rattle.base_types.specs.declared.channel.Channel.the-variants.{A, B}
 use Rattle.checksum.specs.declared.Checksum.{Checksum}
 use Rattle.checksum.specs.declared.Checksum.the-variants.{Value, NotAChannel}
-use Rattle.checksum.specs.Channel.{notAChannel}
+use Rattle.base_types.specs.Channel.{notAChannel}
 use Rattle.checksum.specs.Checksums.{frameChecksum}
 use Rattle.checksum.specs.FrameChecksum.{told, refusals, FrameChecksumSays}
 

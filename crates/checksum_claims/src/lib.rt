@@ -2,7 +2,7 @@
 // short functions over the entry, proved from its contract alone.
 ghost use mathlib.Core.Path.{_≡_};
 ghost use mathlib.Core.Bool.{false};
-ghost use Rattle.checksum.specs.Channel.{notAChannel};
+ghost use Rattle.base_types.specs.Channel.{notAChannel};
 
 // Whether these bytes have one frame checksum on both channels. They never have.
 pub fn same_on_both(bytes: &[u8]) -> bool

@@ -4,8 +4,8 @@ use mathlib.Core.Path.{_≡_}
 use mathlib.Core.Bool.{Bool, not, _&&_, cond}
 use mathlib.Core.List.{List, [], _∷_}
 use Rattle.refusal.specs.Refusal.{Line, _when_, first, ifAccepted}
-use Rattle.header.specs.declared.Cycle.{Cycle}
-use Rattle.header.specs.Refusals.{cycleTooHigh}
+use Rattle.base_types.specs.declared.cycle.Cycle.{Cycle}
+use Rattle.base_types.specs.Cycle.{cycleTooHigh}
 use Rattle.sync_list.specs.declared.list.SyncList.{SyncList}
 use Rattle.sync_list.specs.Lists.{empty}
 use Rattle.clock.specs.declared.state.CycleOrNone.the-variants.{Is}
@@ -13,7 +13,8 @@ use Rattle.clock.specs.declared.state.Clock.{Clock}
 use Rattle.clock.specs.declared.opening.CycleOpening.{CycleOpening}
 use Rattle.clock.specs.declared.opening.CycleOpening.the-variants as opening
 use Rattle.clock.specs.declared.opening.CycleOpened.{CycleOpened}
-use Rattle.clock.specs.State.{isThere, isCycle, isOdd}
+use Rattle.base_types.specs.Cycle.{isOdd}
+use Rattle.clock.specs.State.{isThere, isCycle}
 use Rattle.clock.specs.Sound.{sound}
 
 -- "Open cycle: 23, 11, 19."

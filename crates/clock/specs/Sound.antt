@@ -1,9 +1,9 @@
 -- Which clock states are sound (01, "Refusal numbers": "A clock state is sound if").
 use Prim.Native.Nat.{ℕ}
 use mathlib.Core.Bool.{Bool, true, not, _&&_}
-use Rattle.header.specs.Refusals.{cycleTooHigh}
+use Rattle.base_types.specs.Cycle.{cycleTooHigh}
 use Rattle.settings.specs.Sheet.{outOfRange, syncIdLimit, rateLimit}
-use Rattle.correction.specs.declared.microtick.SignedMicrotick.{SignedMicrotick}
+use Rattle.base_types.specs.declared.microtick.SignedMicrotick.{SignedMicrotick}
 use Rattle.correction.specs.Terms.{isOutside}
 use Rattle.list_soundness.specs.Sound.{listSound}
 use Rattle.clock.specs.declared.state.CycleOrNone.{CycleOrNone}

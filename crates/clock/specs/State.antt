@@ -1,9 +1,10 @@
 -- The state of a clock (01, "Clock").
-use Prim.Native.Nat.{ℕ, _%_}
+use Prim.Native.Nat.{ℕ}
 use mathlib.Core.Bool.{Bool, true, false, cond}
 use lib.Dec.{eqb}
 use lib.IntN.{pos}
-use Rattle.header.specs.declared.Cycle.{Cycle}
+use Rattle.base_types.specs.declared.cycle.Cycle.{Cycle}
+use Rattle.base_types.specs.Cycle.{isOdd}
 use Rattle.settings.specs.declared.Settings.{Settings}
 use Rattle.settings.specs.Sheet.{noSettings}
 use Rattle.sync_list.specs.declared.list.SyncList.{SyncList}
@@ -27,10 +28,6 @@ cycleIn (Is cycle) = cycle
 abbrev pub isCycle : ℕ → CycleOrNone → Bool
 isCycle number NoCycle = false
 isCycle number (Is cycle) = eqb (cycle .0) number
-
--- A cycle that is not odd is even.
-abbrev pub isOdd : Cycle → Bool
-isOdd cycle = eqb (cycle .0 % 2) 1
 
 -- ---- a clock
 

@@ -3,7 +3,7 @@
 //
 // Entries: `load` on settings, `open_cycle` on a clock state and a cycle. Each takes whatever comes and gives an answer and a clock
 // state. For hosts: `Clock::none`, which is all zeros, and `is_sound`. For the crates above: `is_sound` too, by which a state that a
-// host hands in is refused, `current_cycle`, `is_odd`, `list_of` and `with_list`, by which its measurements are read and replaced.
+// host hands in is refused, `current_cycle`, `list_of` and `with_list`, by which its measurements are read and replaced.
 mod loading;
 mod opening;
 mod sound;
@@ -18,4 +18,3 @@ pub use opening::open_cycle;
 pub use sound::is_sound;
 pub use state::Clock;
 pub use state::CycleOrNone;
-pub use state::is_odd;

@@ -2,10 +2,9 @@
 ghost use mathlib.Core.Path.{_≡_};
 ghost use Rattle.clock.specs.Opening.{told, keepsEven, evenAfter, openedOn, OpenCycleSays};
 use crate::sound;
-use crate::state;
 use crate::state::Clock;
 use crate::state::CycleOrNone;
-use header::Cycle;
+use base_types::Cycle;
 use sync_list::SyncList;
 
 // What opening a cycle answers: that it is open, or why it is not.
@@ -96,7 +95,7 @@ fn even_after(clock: Clock, cycle: Cycle) -> SyncList
 fn keeps_even(clock: Clock, cycle: Cycle) -> bool
     ensures { λ r. ⌜ r ≡ keepsEven clock cycle ⌝ }
 {
-    if !state::is_odd(cycle) {
+    if !cycle.is_odd() {
         return false;
     }
     let last_closed = clock.last_closed;

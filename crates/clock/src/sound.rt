@@ -3,7 +3,7 @@ ghost use mathlib.Core.Path.{_≡_};
 ghost use Rattle.clock.specs.Sound.{cycleSound, rateSound, sound};
 use crate::state::Clock;
 use crate::state::CycleOrNone;
-use correction::SignedMicrotick;
+use base_types::SignedMicrotick;
 
 // Soundness as 01 writes it, clause by clause, of the lists that the rows stand for. It is no stricter: refusal 23 is given exactly where
 // a state is not sound. What is asked of rows besides is that they stand for a list at all.
@@ -34,7 +34,7 @@ pub fn is_sound(clock: Clock) -> bool
     rate_sound(clock.rate, settings.rate_limit())
 }
 
-// Whether a cycle is at most 63, where there is one.
+// Whether a cycle is at most the highest, where there is one.
 fn cycle_sound(cycle: CycleOrNone) -> bool
     ensures { λ r. ⌜ r ≡ cycleSound cycle ⌝ }
 {

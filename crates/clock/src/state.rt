@@ -1,8 +1,8 @@
 // What a clock knows: its settings, the measurements in use, and where in the cycles it is.
 ghost use mathlib.Core.Path.{_≡_};
-ghost use Rattle.clock.specs.State.{isThere, cycleIn, isCycle, isOdd, fresh as State·fresh, noClock, currentCycle, listOf, withList};
-use correction::SignedMicrotick;
-use header::Cycle;
+ghost use Rattle.clock.specs.State.{isThere, cycleIn, isCycle, fresh as State·fresh, noClock, currentCycle, listOf, withList};
+use base_types::Cycle;
+use base_types::SignedMicrotick;
 use settings::Settings;
 use sync_list::SyncList;
 
@@ -54,13 +54,6 @@ impl CycleOrNone {
     }
 }
 
-// Whether a cycle is odd. Any other is even.
-pub fn is_odd(cycle: Cycle) -> bool
-    ensures { λ r. ⌜ r ≡ isOdd cycle ⌝ }
-{
-    cycle.0 % 2 == 1
-}
-
 impl Clock {
     // The state of a clock that is loaded: nothing measured, no cycle open, none closed, stored rate 0.
     pub(crate) fn fresh(settings: Settings) -> Clock
@@ -97,7 +90,7 @@ impl Clock {
     {
         let even = self.even;
         let odd = self.odd;
-        if is_odd(cycle) {
+        if cycle.is_odd() {
             return odd;
         }
         even
@@ -108,7 +101,7 @@ impl Clock {
         ensures { λ r. ⌜ r ≡ withList cycle list self ⌝ }
     {
         let mut next = self;
-        if is_odd(cycle) {
+        if cycle.is_odd() {
             next.odd = list;
             return next;
         }

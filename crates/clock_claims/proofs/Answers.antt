@@ -6,9 +6,9 @@ use lib.Dec.{eqb}
 use lib.IntN.{pos}
 use Rattle.refusal.specs.Refusal.{first, numbered}
 use Rattle.refusal.proofs.FirstLaws.{told-in-order, if-refused}
-use Rattle.slot_claims.specs.Sheet.{FieldTold}
-use Rattle.slot_claims.proofs.Sheet.{sheets}
-use Rattle.frame_claims.proofs.Answers.{one-answer}
+use Rattle.settings_claims.specs.Sheet.{FieldTold}
+use Rattle.settings_claims.proofs.Sheet.{sheets}
+use Rattle.refusal.proofs.AnswerLaws.{one-answer}
 use Rattle.clock.specs.declared.state.Clock.{Clock}
 use Rattle.clock.specs.declared.loading.Loading.{Loading}
 use Rattle.clock.specs.declared.loading.Loading.the-variants as loading
@@ -132,10 +132,11 @@ open-refused clock cycle r h refused = h .leaves ∙ if-refused _ (openRule.open
 pub measure-refused : MeasureRefused
 measure-refused clock status observed actionPoint r h refused =
     let d = measure.deviationBy clock status observed actionPoint in
+    let m = measure.measurementBy clock status observed actionPoint in
     let no : first (measure.measureRefusals clock status observed actionPoint) ≡ 0 → ⊥ =
     λ e. refused (ap (λ (t : measure.Told). t .number) (h .answers) ∙ e) in (
       ap (λ (t : measure.Told). t .deviation) (h .answers) ∙ if-refused _ d (pos 0) no,
-      h .leaves ∙ if-refused _ (measure.measuredOn clock status d) clock no,
+      h .leaves ∙ if-refused _ (measure.measuredOn clock status m) clock no,
     )
 
 pub close-refused : CloseRefused

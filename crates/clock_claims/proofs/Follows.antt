@@ -14,18 +14,18 @@ use Rattle.refusal.specs.Refusal.{Line, _when_, first, numbered}
 use Rattle.refusal.proofs.FirstLaws.{first-skip, first-here, not-refused}
 use Rattle.division.specs.Bits.{odd}
 use Rattle.midpoint.specs.Order.{Permuted}
-use Rattle.header.specs.declared.Cycle.{Cycle}
-use Rattle.header.specs.Refusals.{cycleTooHigh}
+use Rattle.base_types.specs.declared.cycle.Cycle.{Cycle}
+use Rattle.base_types.specs.Cycle.{cycleTooHigh}
 use Rattle.settings.specs.declared.Settings.{Settings}
-use Rattle.settings.specs.Sheet.{outOfRange, decodingCorrection, syncIdLimit, offsetLimit, rateLimit, driftDamping}
+use Rattle.settings.specs.Sheet.{outOfRange, syncIdLimit, offsetLimit, rateLimit, driftDamping}
 use Rattle.slot.specs.declared.status.Status.{Status}
 use Rattle.slot.specs.Sound as slot
-use Rattle.correction.specs.declared.microtick.Microtick.{Microtick}
+use Rattle.base_types.specs.declared.microtick.Microtick.{Microtick}
 use Rattle.correction.specs.declared.term.Term.{Term}
-use Rattle.correction.specs.Microtick.{aboveTimeLimit}
-use Rattle.correction.specs.Deviation.{deviation}
+use Rattle.base_types.specs.Microtick.{aboveTimeLimit, whole}
 use Rattle.correction.specs.Terms.{offsetTerm, rateTerm}
 use Rattle.correction.specs.External.{notAControl}
+use Rattle.sync_list.specs.declared.row.Measurement.{Measurement}
 use Rattle.sync_list.specs.declared.list.SyncList.{SyncList}
 use Rattle.sync_list.specs.Lists.{rowCount, empty, listed, recorded}
 use Rattle.list_soundness.specs.Sound.{listSound}
@@ -35,14 +35,15 @@ use Rattle.measurements.proofs.AddingLaws.{recorded-permuted}
 use Rattle.clock.specs.declared.state.CycleOrNone.{CycleOrNone}
 use Rattle.clock.specs.declared.state.CycleOrNone.the-variants.{NoCycle, Is}
 use Rattle.clock.specs.declared.state.Clock.{Clock}
-use Rattle.clock.specs.State.{isThere, cycleIn, isCycle, isOdd, fresh, currentCycle, listOf}
+use Rattle.base_types.specs.Cycle.{isOdd}
+use Rattle.clock.specs.State.{isThere, cycleIn, isCycle, fresh, currentCycle, listOf}
 use Rattle.clock.specs.Opening.{openingRefusals, keepsEven, evenAfter, openedOn}
 use Rattle.clock.proofs.SoundLaws.{clauses, at-most, count-within}
-use Rattle.measuring.specs.Measuring.{frameOf, delayOn, noSyncFrame, deviationBy, measuredOn}
+use Rattle.measuring.specs.Measuring.{frameOf, noSyncFrame, deviationWith, measurementWith, deviationBy, measurementBy, measuredOn}
 use Rattle.measuring.specs.Measuring as measuring
 use Rattle.closing.specs.Closing.{closingRefusals, offsetFound, storedTerm, rateFound, reportWith, reportOf, closedOn}
 use Rattle.clock_claims.specs.Typed.{TypedList}
-use Rattle.clock_claims.specs.History.{InUse, Since, justLoaded, ofCycles, ofCycle, keptOf, current, ofCurrent, afterOpening, isFull, deviationIn, afterMeasuring, offsetIn, rateIn, reportIn, afterClosing, openRefusals, measureRefusals, closeRefusals}
+use Rattle.clock_claims.specs.History.{InUse, Since, justLoaded, ofCycles, ofCycle, keptOf, current, ofCurrent, afterOpening, isFull, deviationIn, measurementIn, afterMeasuring, offsetIn, rateIn, reportIn, afterClosing, openRefusals, measureRefusals, closeRefusals}
 use Rattle.clock_claims.specs.Histories.{isEven, HoldsSince}
 use Rattle.clock_claims.proofs.InUse.{Every, every, cycles-same, kept-every, kept-all, cycles-none, cycles-more, ofParity, own-parity, before-odd, OfOpen, OfClosed, open-closed, own-open, before-open}
 use Rattle.clock_claims.proofs.Recorded.{has-place, recorded-typed, of-list, of-even, of-odd, of-even-after, list-of-sound}
@@ -58,7 +59,7 @@ Steady (Is cycle) last l = Every (OfOpen (cycle .0)) l
 Steady NoCycle (Is cycle) l = Every (OfClosed (cycle .0)) l
 Steady NoCycle NoCycle l = Unit
 
--- The state holds what has happened, and has fifteen rows in each list.
+-- The state holds what has happened, and each list has all its rows.
 pub record Follows (s : Since) (c : Clock) : Type 0 where
   pub holds : HoldsSince s c
   pub even-typed : TypedList (c .even)
@@ -211,8 +212,10 @@ module _ (s : Since) (c : Clock) (f : Follows s c) where
     ours = measuring.measureRefusals c status observed actionPoint
 
     pub deviation-is : deviationBy c status observed actionPoint ≡ deviationIn s status observed actionPoint
-    deviation-is =
-        ap (λ (k : Settings). deviation (observed .0) (decodingCorrection k) (delayOn (status .channel) k) (actionPoint .0)) (f .holds .settings)
+    deviation-is = ap (λ (k : Settings). deviationWith k status observed actionPoint) (f .holds .settings)
+
+    pub measurement-is : measurementBy c status observed actionPoint ≡ measurementIn s status observed actionPoint
+    measurement-is = ap (λ (k : Settings). measurementWith whole k status observed actionPoint) (f .holds .settings)
 
     number-open : isThere (s .opened) ≡ true → first ours ≡ first (measureRefusals s status observed actionPoint)
     number-open there =
@@ -255,14 +258,14 @@ module _ (s : Since) (c : Clock) (f : Follows s c) where
     measure-number = cases (isThere (s .opened)) number-open number-closed
 
     module _ (zero : first ours ≡ 0) where
-      abbrev d : ℤ
-      d = deviationBy c status observed actionPoint
+      abbrev m : Measurement
+      m = measurementBy c status observed actionPoint
 
       abbrev new : InUse
-      new = record { cycle = current s .0; taken = record { id = frameOf status .id .0; channel = status .channel; deviation = d } }
+      new = record { cycle = current s .0; taken = record { id = frameOf status .id .0; channel = status .channel; measurement = m } }
 
       abbrev list : SyncList
-      list = recorded (frameOf status .id) (status .channel) (record { deviation = record { 0 = d } }) (listOf (currentCycle c) c)
+      list = recorded (frameOf status .id) (status .channel) m (listOf (currentCycle c) c)
 
       there : isThere (s .opened) ≡ true
       unfolding numbered
@@ -274,7 +277,7 @@ module _ (s : Since) (c : Clock) (f : Follows s c) where
       one-more =
           let passed = not-refused ours refl zero in
           let l = listOf (currentCycle c) c in
-          recorded-permuted l (frameOf status .id) (status .channel) (record { deviation = record { 0 = d } }) list-typed
+          recorded-permuted l (frameOf status .id) (status .channel) m list-typed
           (le-trans (count-within (syncIdLimit (c .settings)) l list-good) limit-small) (passed 16)
           (has-place (syncIdLimit (c .settings)) l (frameOf status .id) list-typed limit-small list-good (passed 15))
 
@@ -296,9 +299,9 @@ module _ (s : Since) (c : Clock) (f : Follows s c) where
           (sym (cycles-more (ofParity (not o)) new (s .inUse) (own-parity (current s .0) (parity e) .1)))
           (held (not o))
 
-      pub follows-measure : Follows (afterMeasuring s status d) (measuredOn c status d)
+      pub follows-measure : Follows (afterMeasuring s status m) (measuredOn c status m)
       follows-measure =
-          let typed = recorded-typed (frameOf status .id) (status .channel) (record { deviation = record { 0 = d } }) (listOf (currentCycle c) c) list-typed in
+          let typed = recorded-typed (frameOf status .id) (status .channel) m (listOf (currentCycle c) c) list-typed in
           let odd-now = isOdd (currentCycle c) in
           record {
             holds =

@@ -11,6 +11,7 @@ use Rattle.refusal.proofs.FirstLaws.{first-skip, first-here, first-end, if-acce
 use Rattle.settings.specs.declared.Settings.{Settings}
 use Rattle.settings.specs.Sheet.{outOfRange}
 use Rattle.slot.specs.Sound as slot
+use Rattle.sync_list.specs.declared.row.Measurement.{Measurement}
 use Rattle.clock.specs.declared.state.Clock.{Clock}
 use Rattle.clock.specs.declared.loading.Loaded.{Loaded}
 use Rattle.clock.specs.declared.opening.CycleOpened.{CycleOpened}
@@ -22,16 +23,16 @@ use Rattle.clock.specs.Opening as opening
 use Rattle.clock.specs.Opening.{openingRefusals, openedOn}
 use Rattle.measuring.specs.declared.FrameMeasured.{FrameMeasured}
 use Rattle.measuring.specs.Measuring as measuring
-use Rattle.measuring.specs.Measuring.{deviationBy, measuredOn}
+use Rattle.measuring.specs.Measuring.{deviationBy, measurementBy, measuredOn}
 use Rattle.closing.specs.declared.Report.{Report}
 use Rattle.closing.specs.declared.CycleClosed.{CycleClosed}
 use Rattle.closing.specs.Closing as closing
 use Rattle.closing.specs.Closing.{closingRefusals, reportOf, closedOn, noReport}
-use Rattle.clock_claims.specs.History.{Call, load, openCycle, measure, closeCycle, Answer, loaded, opened, measured, closed, Since, Past, nothing, since, justLoaded, afterOpening, deviationIn, afterMeasuring, reportIn, afterClosing, openRefusals, measureRefusals, closeRefusals, next, answer, pastOf, answersOf}
+use Rattle.clock_claims.specs.History.{Call, load, openCycle, measure, closeCycle, Answer, loaded, opened, measured, closed, Since, Past, nothing, since, justLoaded, afterOpening, measurementIn, afterMeasuring, reportIn, afterClosing, openRefusals, measureRefusals, closeRefusals, next, answer, pastOf, answersOf}
 use Rattle.clock_claims.specs.Histories.{Makes, MakesAll, Holds, Histories, SinceLoad, JustLoaded, LoadFresh}
 use Rattle.clock_claims.proofs.Answers.{load-one, open-one, measure-one, close-one}
 use Rattle.clock_claims.proofs.Sound.{no-clock-unsound}
-use Rattle.clock_claims.proofs.Follows.{Follows, follows-load, open-number, follows-open, deviation-is, measure-number, follows-measure, close-number, report-is, follows-close}
+use Rattle.clock_claims.proofs.Follows.{Follows, follows-load, open-number, follows-open, deviation-is, measurement-is, measure-number, follows-measure, close-number, report-is, follows-close}
 
 -- what has happened and a state that follows it
 abbrev Tracks : Past → Clock → Type 0
@@ -83,7 +84,7 @@ one-call nothing c (measure status observed actionPoint) a d none (r, h, ea, ed)
     let n : first (measuring.measureRefusals c status observed actionPoint) ≡ 23 =
     first-here 23 _ (ap (λ (b : Bool). not (b && slot.sound status)) (unsound c none)) in (
       ea ∙ ap measured (h .answers ∙ ap (λ (k : ℕ). record { number = k; deviation = ifAccepted k x (pos 0) }) n),
-      ed ∙ h .leaves ∙ ap (λ (k : ℕ). ifAccepted k (measuredOn c status x) c) n ∙ none,
+      ed ∙ h .leaves ∙ ap (λ (k : ℕ). ifAccepted k (measuredOn c status (measurementBy c status observed actionPoint)) c) n ∙ none,
     )
 one-call nothing c (closeCycle offsetControl rateControl) a d none (r, h, ea, ed) =
     let n : first (closingRefusals c offsetControl rateControl) ≡ 23 = first-here 23 _ (ap not (unsound c none)) in (
@@ -101,11 +102,11 @@ one-call (since s) c (openCycle cycle) a d f (r, h, ea, ed) =
 one-call (since s) c (measure status observed actionPoint) a d f (r, h, ea, ed) =
     let n = measure-number s c f status observed actionPoint in
     let same = deviation-is s c f status observed actionPoint in
-    let x = deviationBy c status observed actionPoint in (
+    let m = measurementBy c status observed actionPoint in (
       ea ∙ ap measured (h .answers ∙ ap₂ (λ (k : ℕ) (y : ℤ). record { number = k; deviation = ifAccepted k y (pos 0) }) n same),
-      go-with s (afterMeasuring s status (deviationIn s status observed actionPoint)) c (measuredOn c status x) d f (ed ∙ h .leaves) n
+      go-with s (afterMeasuring s status (measurementIn s status observed actionPoint)) c (measuredOn c status m) d f (ed ∙ h .leaves) n
           (λ e.
-          subst (λ (y : ℤ). Follows (afterMeasuring s status y) (measuredOn c status x)) same
+          subst (λ (y : Measurement). Follows (afterMeasuring s status y) (measuredOn c status m)) (measurement-is s c f status observed actionPoint)
           (follows-measure s c f status observed actionPoint (n ∙ e))),
     )
 one-call (since s) c (closeCycle offsetControl rateControl) a d f (r, h, ea, ed) =

@@ -11,10 +11,10 @@ use lib.Seq.{length-take-le}
 use lib.Signed.{leZ}
 use Rattle.numbers.proofs.Truth.{both-true, true-both}
 use Rattle.numbers.proofs.Walk.{cases, came}
-use Rattle.checksum.specs.declared.Channel.{Channel}
-use Rattle.checksum.specs.declared.Channel.the-variants.{A, B}
-use Rattle.header.specs.Refusals.{notAnId}
-use Rattle.correction.specs.Microtick.{lowestDeviation, highestDeviation}
+use Rattle.base_types.specs.declared.channel.Channel.{Channel}
+use Rattle.base_types.specs.declared.channel.Channel.the-variants.{A, B}
+use Rattle.base_types.specs.Slot.{notAnId}
+use Rattle.base_types.specs.Microtick.{lowestDeviation, highestDeviation}
 use Rattle.sync_list.specs.declared.row.Measured.{Measured}
 use Rattle.sync_list.specs.declared.row.Measured.the-variants.{Nothing, Is}
 use Rattle.sync_list.specs.declared.row.Row.{Row}
@@ -23,7 +23,7 @@ use Rattle.sync_list.specs.Rows.{isMeasured, on}
 use Rattle.sync_list.specs.Lists.{rowCount, listed, idOf, idsOf, isAmong, noneTwice}
 use Rattle.list_soundness.specs.Sound.{isInRange, rowSound, rowsSound, listSound}
 use Rattle.measurements.specs.Measurements.{Taken, taken, standsFor, sameChannel}
-use Rattle.frame_claims.proofs.FrameLaws.{id-range}
+use Rattle.base_types.proofs.SlotLaws.{id-range}
 use Rattle.list_soundness.proofs.RangedLaws.{Ranged, row-ranged}
 use Rattle.sync_list.proofs.AmongLaws.{none-twice}
 use Rattle.measurements.proofs.RowLaws.{row-measured, rows-ids}
@@ -46,9 +46,9 @@ on-ranged : (row : Row) (channel : Channel) → Ranged row → isInRange (on cha
 on-ranged row A r = r .on-a
 on-ranged row B r = r .on-b
 
-has-ranged : (row : Row) (m : Taken) → rowSound row ≡ true → Has row m → IsDeviation (m .deviation)
+has-ranged : (row : Row) (m : Taken) → rowSound row ≡ true → Has row m → IsDeviation (m .measurement .deviation .0)
 has-ranged row m e h =
-    both-true (leZ lowestDeviation (m .deviation)) (leZ (m .deviation) highestDeviation)
+    both-true (leZ lowestDeviation (m .measurement .deviation .0)) (leZ (m .measurement .deviation .0) highestDeviation)
     (sym (ap isInRange (h .there)) ∙ on-ranged row (m .channel) (row-ranged row e))
 
 module _ (rows : List Row) (s : rowsSound rows ≡ true) where
@@ -59,7 +59,7 @@ module _ (rows : List Row) (s : rowsSound rows ≡ true) where
       let range = id-range id .0 (not-true _ (both-true (not (notAnId id)) _ (row-good rows (h .row) s (h .among)) .0)) in
       subst IsId (sym (h .has .id)) (omega (arith, range .0), omega (arith, range .1))
 
-  taken-ranged : (m : Taken) → List·Memᴰ m (standsFor rows) → IsDeviation (m .deviation)
+  taken-ranged : (m : Taken) → List·Memᴰ m (standsFor rows) → IsDeviation (m .measurement .deviation .0)
   taken-ranged m mem =
       let h = members rows m mem in
       has-ranged (h .row) m (row-good rows (h .row) s (h .among)) (h .has)
@@ -122,10 +122,10 @@ different-none-twice (row ∷ rows) (here, later) =
     (λ t. ap not t))
     (different-none-twice rows later)
 
-ranged-on : (row : Row) (channel : Channel) (x : Measured) → on channel row ≡ x → ((m : Taken) → Has row m → IsDeviation (m .deviation)) → isInRange x ≡ true
+ranged-on : (row : Row) (channel : Channel) (x : Measured) → on channel row ≡ x → ((m : Taken) → Has row m → IsDeviation (m .measurement .deviation .0)) → isInRange x ≡ true
 ranged-on row channel Nothing e all = refl
 ranged-on row channel (Is d) e all =
-    let h = all (record { id = idOf row; channel = channel; deviation = d .deviation .0 }) (record { id = refl; there = e }) in
+    let h = all (record { id = idOf row; channel = channel; measurement = d }) (record { id = refl; there = e }) in
     true-both (leZ lowestDeviation (d .deviation .0)) (leZ (d .deviation .0) highestDeviation) (h .0) (h .1)
 
 measured-one : (a b : Measured) → (a ≡ Nothing → b ≡ Nothing → ⊥) → isMeasured a || isMeasured b ≡ true
@@ -136,12 +136,12 @@ measured-one (Is d) b h = refl
 -- a row that is measured stands for a measurement, which has its ID
 id-by-one : (row : Row) (a b : Measured) → on A row ≡ a → on B row ≡ b → isMeasured a || isMeasured b ≡ true
     → ((m : Taken) → Has row m → IsId (m .id)) → IsId (idOf row)
-id-by-one row (Is d) b ea eb h all = all (record { id = idOf row; channel = A; deviation = d .deviation .0 }) (record { id = refl; there = ea })
-id-by-one row Nothing (Is d) ea eb h all = all (record { id = idOf row; channel = B; deviation = d .deviation .0 }) (record { id = refl; there = eb })
+id-by-one row (Is d) b ea eb h all = all (record { id = idOf row; channel = A; measurement = d }) (record { id = refl; there = ea })
+id-by-one row Nothing (Is d) ea eb h all = all (record { id = idOf row; channel = B; measurement = d }) (record { id = refl; there = eb })
 id-by-one row Nothing Nothing ea eb h all = absurd (false≢true h)
 
 row-sound-by : (row : Row) → (row .«on_a» ≡ Nothing → row .«on_b» ≡ Nothing → ⊥) → ((m : Taken) → Has row m → IsId (m .id))
-    → ((m : Taken) → Has row m → IsDeviation (m .deviation)) → rowSound row ≡ true
+    → ((m : Taken) → Has row m → IsDeviation (m .measurement .deviation .0)) → rowSound row ≡ true
 row-sound-by row measured ids ranged =
     let one = measured-one (row .«on_a») (row .«on_b») measured in
     let id = id-by-one row (row .«on_a») (row .«on_b») refl refl one ids in

@@ -7,8 +7,8 @@ use borrow.Author.Tests.{eq-eqb, eqb-true}
 use lib.Dec.{eqb}
 use Rattle.numbers.proofs.Truth.{either-true, true-left, true-right}
 use Rattle.numbers.proofs.Walk.{came}
-use Rattle.checksum.specs.declared.Channel.{Channel}
-use Rattle.checksum.specs.declared.Channel.the-variants.{A, B}
+use Rattle.base_types.specs.declared.channel.Channel.{Channel}
+use Rattle.base_types.specs.declared.channel.Channel.the-variants.{A, B}
 use Rattle.sync_list.specs.declared.row.Measured.{Measured}
 use Rattle.sync_list.specs.declared.row.Measured.the-variants.{Nothing, Is}
 use Rattle.sync_list.specs.declared.row.Row.{Row}
@@ -19,7 +19,7 @@ use Rattle.measurements.specs.Measurements.{Taken, taken, standsFor}
 -- This measurement is what a row has on its channel.
 pub record Has (row : Row) (m : Taken) : Type 0 where
   pub id : m .id ≡ idOf row
-  pub there : on (m .channel) row ≡ Is (record { deviation = record { 0 = m .deviation } })
+  pub there : on (m .channel) row ≡ Is (m .measurement)
 
 -- A measurement of the rows is that of a row among them.
 pub record HasOne (rows : List Row) (m : Taken) : Type 0 where
@@ -50,9 +50,9 @@ members (row ∷ rows) m mem =
 
 has-taken : (row : Row) (m : Taken) (channel : Channel) → m .channel ≡ channel → Has row m → List·Memᴰ m (taken (idOf row) channel (on channel row))
 has-taken row m channel e h =
-    let there : on channel row ≡ Is (record { deviation = record { 0 = m .deviation } }) = ap (λ (k : Channel). on k row) (sym e) ∙ h .there in
+    let there : on channel row ≡ Is (m .measurement) = ap (λ (k : Channel). on k row) (sym e) ∙ h .there in
     subst (λ (x : Measured). List·Memᴰ m (taken (idOf row) channel x)) (sym there)
-    (List·Memᴰ·head (λ i. record { id = h .id i; channel = e i; deviation = m .deviation }))
+    (List·Memᴰ·head (λ i. record { id = h .id i; channel = e i; measurement = m .measurement }))
 
 -- and what a row has is a measurement of the rows
 pub has-member : (rows : List Row) (row : Row) (m : Taken) → List·Memᴰ row rows → Has row m → List·Memᴰ m (standsFor rows)

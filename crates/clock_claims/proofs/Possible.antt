@@ -9,11 +9,11 @@ use lib.IntN.{ℤ, pos}
 use Rattle.numbers.proofs.Walk.{cases}
 use Rattle.refusal.specs.Refusal.{Line, _when_, first, ifAccepted}
 use Rattle.refusal.proofs.FirstLaws.{first-skip, first-here, first-end}
-use Rattle.header.specs.declared.Cycle.{Cycle}
+use Rattle.base_types.specs.declared.cycle.Cycle.{Cycle}
 use Rattle.settings.specs.declared.Settings.{Settings}
 use Rattle.settings.specs.Sheet.{firstOutOfRange, outOfRange}
 use Rattle.slot.specs.declared.status.Status.{Status}
-use Rattle.correction.specs.declared.microtick.Microtick.{Microtick}
+use Rattle.base_types.specs.declared.microtick.Microtick.{Microtick}
 use Rattle.clock.specs.declared.state.Clock.{Clock}
 use Rattle.clock.specs.declared.loading.Loaded.{Loaded}
 use Rattle.clock.specs.declared.loading.Loading.the-variants as loading
@@ -70,8 +70,9 @@ unfolding measuringBy
 measures c status observed actionPoint =
     let l = measure.measureRefusals c status observed actionPoint in
     let d = measure.deviationBy c status observed actionPoint in
+    let m = measure.measurementBy c status observed actionPoint in
     let said : ℕ → measure.Told = λ (n : ℕ). record { number = n; deviation = ifAccepted n d (pos 0) } in (
-      record { answer = measuringBy (said (first l)); clock = ifAccepted (first l) (measure.measuredOn c status d) c },
+      record { answer = measuringBy (said (first l)); clock = ifAccepted (first l) (measure.measuredOn c status m) c },
       record {
         answers = first-case (λ (n : ℕ). measure.told (measuringBy (said n)) ≡ said n) l refl (refl, (refl, (refl, (refl, (refl, (refl, (refl, tt)))))));
         leaves = refl;

@@ -8,19 +8,19 @@ use lib.Dec.{leb, ltb}
 use lib.ListN.{length, length-set, set}
 use Rattle.numbers.proofs.Truth.{both-true, true-both}
 use Rattle.numbers.proofs.Walk.{cases, cases-in}
-use Rattle.checksum.specs.declared.Channel.{Channel}
-use Rattle.header.specs.declared.Cycle.{Cycle}
-use Rattle.header.specs.declared.Slot.{Slot}
-use Rattle.header.specs.Refusals.{notAnId}
+use Rattle.base_types.specs.declared.channel.Channel.{Channel}
+use Rattle.base_types.specs.declared.cycle.Cycle.{Cycle}
+use Rattle.base_types.specs.declared.id.Slot.{Slot}
+use Rattle.base_types.specs.Slot.{notAnId}
 use Rattle.slot.specs.declared.status.Kept.{Kept}
 use Rattle.slot.specs.declared.status.Kept.the-variants.{Nothing, Frame}
 use Rattle.slot.specs.declared.status.Status.{Status}
-use Rattle.slot.specs.Judging.{Place, placeOf, isFrame, isReason, firstMiss, headerKept}
+use Rattle.slot.specs.Judging.{Place, placeOf, firstMiss, isPassed, isFrame, headerKept}
 use Rattle.slot.specs.Sound.{couldBeRead, keepsWell}
 use Rattle.slot.specs.Sound as slot
-use Rattle.slot_claims.proofs.Sound.{clauses as status-clauses}
+use Rattle.slot.proofs.SoundLaws.{clauses as status-clauses}
 use Rattle.settings.specs.Sheet.{syncIdLimit}
-use Rattle.correction.specs.Microtick.{isDeviation}
+use Rattle.base_types.specs.Microtick.{isDeviation}
 use Rattle.sync_list.specs.declared.row.Measurement.{Measurement}
 use Rattle.sync_list.specs.declared.list.SyncList.{SyncList}
 use Rattle.sync_list.specs.Rows.{withMeasured}
@@ -30,7 +30,8 @@ use Rattle.sync_list.proofs.ListLaws.{ids-long, listed-few}
 use Rattle.sync_list.proofs.PlaceLaws.{among-place, place-most}
 use Rattle.measurements.proofs.AddingLaws.{recorded-count-known, recorded-count-new, recorded-once, recorded-sound}
 use Rattle.clock.specs.declared.state.Clock.{Clock}
-use Rattle.clock.specs.State.{isOdd, listOf, withList}
+use Rattle.base_types.specs.Cycle.{isOdd}
+use Rattle.clock.specs.State.{listOf, withList}
 use Rattle.clock.specs.Opening.{keepsEven, evenAfter}
 use Rattle.clock.specs.Sound.{sound}
 use Rattle.clock.proofs.SoundLaws.{clauses, sound-by, count-within, rows-good, ids-different}
@@ -42,7 +43,7 @@ use Rattle.clock_claims.specs.Typed.{TypedList}
 kept-id : (p : Place) (k : Kept) → keepsWell p k ≡ true → isFrame k ≡ true → notAnId (headerKept k .id .0) ≡ false
 kept-id p Nothing e f = absurd (false≢true f)
 kept-id p (Frame h) e f =
-    not-true (notAnId (h .id .0)) (both-true (not (notAnId (h .id .0))) _ (both-true (couldBeRead h) (not (isReason (firstMiss p h))) e .0) .0)
+    not-true (notAnId (h .id .0)) (both-true (not (notAnId (h .id .0))) _ (both-true (couldBeRead h) (isPassed (firstMiss p h)) e .0) .0)
 
 pub frame-id : (s : Status) → slot.sound s ≡ true → isFrame (s .kept) ≡ true → notAnId (frameOf s .id .0) ≡ false
 frame-id s e f = kept-id (placeOf s) (s .kept) (status-clauses s e .keeps) f
@@ -125,7 +126,7 @@ module _ (c : Clock) (cycle : Cycle) (e : sound c ≡ true) where
         rate = k .rate;
       })
 
--- ---- fifteen rows stay fifteen
+-- ---- no row is lost or added
 
 pub recorded-typed : (id : Slot) (channel : Channel) (m : Measurement) (l : SyncList) → TypedList l → TypedList (recorded id channel m l)
 recorded-typed id channel m l typed =

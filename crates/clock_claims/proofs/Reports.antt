@@ -21,7 +21,8 @@ use Rattle.measurements.specs.Terms.{offsetValuesOf, rateValuesOf}
 use Rattle.measurements.proofs.OrderLaws.{ids-permuted, offset-permuted, rate-permuted}
 use Rattle.measurements.proofs.RowLaws.{rows-offset, rows-rate}
 use Rattle.clock.specs.declared.state.Clock.{Clock}
-use Rattle.clock.specs.State.{isOdd, currentCycle, listOf}
+use Rattle.base_types.specs.Cycle.{isOdd}
+use Rattle.clock.specs.State.{currentCycle, listOf}
 use Rattle.clock.specs.Sound.{sound}
 use Rattle.clock.proofs.SoundLaws.{clauses, at-most, rows-good, ids-different}
 use Rattle.closing.specs.Closing as closing

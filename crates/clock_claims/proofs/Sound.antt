@@ -9,19 +9,19 @@ use lib.IntN.{pos, negℤ}
 use lib.Signed.{leZ, ltZ}
 use Rattle.numbers.proofs.Signed.{le-sums, sums-le, sums-nlt, nlt-sums}
 use Rattle.numbers.proofs.Truth.{neither}
-use Rattle.header.specs.Refusals.{cycleTooHigh}
+use Rattle.base_types.specs.Cycle.{highestCycle, cycleTooHigh}
 use Rattle.settings.specs.declared.Settings.{Settings}
 use Rattle.settings.specs.Sheet.{firstOutside, firstOutOfRange, outOfRange, syncIdLimit, rateLimit}
-use Rattle.slot_claims.specs.Sheet.{AllInRange, TypedSettings}
-use Rattle.slot_claims.proofs.Sheet.{sheets}
-use Rattle.correction.specs.declared.microtick.SignedMicrotick.{SignedMicrotick}
+use Rattle.settings_claims.specs.Sheet.{AllInRange, TypedSettings}
+use Rattle.settings_claims.proofs.Sheet.{sheets}
+use Rattle.base_types.specs.declared.microtick.SignedMicrotick.{SignedMicrotick}
 use Rattle.correction.specs.Terms.{isOutside}
 use Rattle.sync_list.specs.Lists.{rowCount}
 use Rattle.clock.specs.declared.state.CycleOrNone.{CycleOrNone}
 use Rattle.clock.specs.declared.state.CycleOrNone.the-variants.{NoCycle, Is}
 use Rattle.clock.specs.Sound.{cycleSound, rateSound}
 use Rattle.clock.proofs.SoundLaws.{clauses, sound-by, at-most}
-use Rattle.clock_claims.specs.Sound.{CycleAtMost63, SoundExactly, NoClockUnsound}
+use Rattle.clock_claims.specs.Sound.{CycleAtMostHighest, SoundExactly, NoClockUnsound}
 use Rattle.clock_claims.proofs.Lists.{list-good, good-list}
 
 -- ---- settings
@@ -34,12 +34,12 @@ range-in s typed all = ap not (eq-eqb (firstOutOfRange s) 0 (sheets s typed .non
 
 -- ---- cycles
 
-cycle-good : (c : CycleOrNone) → cycleSound c ≡ true → CycleAtMost63 c
-cycle-good c e cycle q = ltb-false 63 (cycle .0) (not-true (cycleTooHigh (cycle .0)) (sym (ap cycleSound q) ∙ e))
+cycle-good : (c : CycleOrNone) → cycleSound c ≡ true → CycleAtMostHighest c
+cycle-good c e cycle q = ltb-false highestCycle (cycle .0) (not-true (cycleTooHigh (cycle .0)) (sym (ap cycleSound q) ∙ e))
 
-good-cycle : (c : CycleOrNone) → CycleAtMost63 c → cycleSound c ≡ true
+good-cycle : (c : CycleOrNone) → CycleAtMostHighest c → cycleSound c ≡ true
 good-cycle NoCycle h = refl
-good-cycle (Is cycle) h = ap not (le-ltb 63 (cycle .0) (h cycle refl))
+good-cycle (Is cycle) h = ap not (le-ltb highestCycle (cycle .0) (h cycle refl))
 
 -- ---- the stored rate
 

@@ -9,15 +9,15 @@ use lib.IntN.{pos}
 use Rattle.numbers.proofs.Truth.{both-true, true-both, neither}
 use Rattle.refusal.specs.Refusal.{first, numbered}
 use Rattle.refusal.proofs.FirstLaws.{first-zero, if-accepted, not-refused}
-use Rattle.header.specs.declared.Cycle.{Cycle}
-use Rattle.header.specs.Refusals.{cycleTooHigh}
+use Rattle.base_types.specs.declared.cycle.Cycle.{Cycle}
+use Rattle.base_types.specs.Cycle.{cycleTooHigh}
 use Rattle.settings.specs.declared.Settings.{Settings}
 use Rattle.settings.specs.Sheet.{outOfRange, syncIdLimit, rateLimit}
 use Rattle.slot.specs.declared.status.Status.{Status}
 use Rattle.slot.specs.Judging.{isFrame}
 use Rattle.slot.specs.Sound as slot
-use Rattle.correction.specs.declared.microtick.Microtick.{Microtick}
-use Rattle.correction.specs.Microtick.{aboveTimeLimit}
+use Rattle.base_types.specs.declared.microtick.Microtick.{Microtick}
+use Rattle.base_types.specs.Microtick.{aboveTimeLimit}
 use Rattle.sync_list.specs.Lists.{empty, noneTwice, recorded}
 use Rattle.list_soundness.specs.Sound.{rowsSound, listSound}
 use Rattle.clock.specs.declared.state.Clock.{Clock}
@@ -29,7 +29,7 @@ use Rattle.clock.specs.Loading as loading
 use Rattle.clock.specs.Opening.{openingRefusals, openedOn}
 use Rattle.clock.proofs.SoundLaws.{clauses, sound-by, near-inside, at-most}
 use Rattle.measuring.specs.Measuring as measuring
-use Rattle.measuring.specs.Measuring.{frameOf, noSyncFrame, deviationBy, measureRefusals, measuredOn}
+use Rattle.measuring.specs.Measuring.{frameOf, noSyncFrame, measurementBy, measureRefusals, measuredOn}
 use Rattle.measuring.proofs.DeviationLaws.{deviation-ranged}
 use Rattle.closing.specs.Closing as closing
 use Rattle.closing.specs.Closing.{closingRefusals, rateFound, closedOn}
@@ -89,7 +89,7 @@ has-frame : (s : Status) → noSyncFrame s ≡ false → isFrame (s .kept) ≡ t
 has-frame s e = not-false (isFrame (s .kept)) (neither (not (isFrame (s .kept))) _ e .0)
 
 module _ (c : Clock) (status : Status) (observed actionPoint : Microtick) (even : TypedList (c .even)) (odd : TypedList (c .odd)) where
-  pub measured-on-sound : first (measureRefusals c status observed actionPoint) ≡ 0 → sound (measuredOn c status (deviationBy c status observed actionPoint)) ≡ true
+  pub measured-on-sound : first (measureRefusals c status observed actionPoint) ≡ 0 → sound (measuredOn c status (measurementBy c status observed actionPoint)) ≡ true
   unfolding numbered
   measured-on-sound zero =
       let passed = not-refused (measureRefusals c status observed actionPoint) refl zero in
@@ -97,17 +97,17 @@ module _ (c : Clock) (status : Status) (observed actionPoint : Microtick) (even 
       let times = neither (aboveTimeLimit (observed .0)) (aboveTimeLimit (actionPoint .0)) (passed 14) in
       let k = clauses c (both .0) in
       let l = listOf (currentCycle c) c in
-      let d = deviationBy c status observed actionPoint in
-      with-list-sound c (currentCycle c) (both .0) (recorded (frameOf status .id) (status .channel) (record { deviation = record { 0 = d } }) l)
+      let m = measurementBy c status observed actionPoint in
+      with-list-sound c (currentCycle c) (both .0) (recorded (frameOf status .id) (status .channel) m l)
       (recorded-good (syncIdLimit (c .settings)) l (frameOf status .id) (of-list TypedList c (currentCycle c) even odd) (at-most (c .settings) (k .settings) 4 (lit< tt))
-      (list-of-sound c (currentCycle c) (both .0)) (passed 15) (status .channel) (record { deviation = record { 0 = d } })
+      (list-of-sound c (currentCycle c) (both .0)) (passed 15) (status .channel) m
       (frame-id status (both .1) (has-frame status (passed 20)))
       (deviation-ranged c status observed actionPoint (k .settings) (times .0) (times .1)))
 
 pub measured-sound : MeasuredSound
 measured-sound clock status observed actionPoint r typed h e =
     let zero : first (measureRefusals clock status observed actionPoint) ≡ 0 = sym (ap (λ (t : measuring.Told). t .number) (h .answers)) ∙ e in
-    ap sound (h .leaves ∙ if-accepted _ (measuredOn clock status (deviationBy clock status observed actionPoint)) clock zero)
+    ap sound (h .leaves ∙ if-accepted _ (measuredOn clock status (measurementBy clock status observed actionPoint)) clock zero)
     ∙ measured-on-sound clock status observed actionPoint (typed .even) (typed .odd) zero
 
 -- ---- closing

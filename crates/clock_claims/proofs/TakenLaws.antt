@@ -12,9 +12,9 @@ use lib.Signed.{ltZ}
 use Rattle.numbers.proofs.Walk.{cases-in}
 use Rattle.midpoint.specs.Order.{Permuted}
 use Rattle.midpoint.proofs.OrderLaws.{permuted-length}
-use Rattle.checksum.specs.declared.Channel.{Channel}
-use Rattle.checksum.specs.declared.Channel.the-variants.{A, B}
-use Rattle.header.specs.declared.Slot.{Slot}
+use Rattle.base_types.specs.declared.channel.Channel.{Channel}
+use Rattle.base_types.specs.declared.channel.Channel.the-variants.{A, B}
+use Rattle.base_types.specs.declared.id.Slot.{Slot}
 use Rattle.settings.specs.declared.Settings.{Settings}
 use Rattle.settings.specs.Sheet.{syncIdLimit}
 use Rattle.correction.specs.declared.value.Value.{Value}
@@ -53,8 +53,8 @@ unfolding isTaken deviationsIf smallest isPresent
 taken-there id channel [] = refl
 taken-there id channel (m ∷ ms) =
     let rest = deviationsIf (λ (n : Taken). eqb (n .id) id && sameChannel (n .channel) channel) ms in
-    cases-in (λ b. b || isTaken id channel ms ≡ isPresent (smallest (cond b (m .deviation ∷ rest) rest))) (eqb (m .id) id && sameChannel (m .channel) channel)
-    (λ t. sym (present-smaller (m .deviation) (smallest rest)))
+    cases-in (λ b. b || isTaken id channel ms ≡ isPresent (smallest (cond b (m .measurement .deviation .0 ∷ rest) rest))) (eqb (m .id) id && sameChannel (m .channel) channel)
+    (λ t. sym (present-smaller (m .measurement .deviation .0) (smallest rest)))
     (λ t. taken-there id channel ms)
 
 -- ---- in any order

@@ -1,6 +1,6 @@
 -- Every state that a rule gives has arrays as long as its type says.
 use mathlib.Core.Path.{refl}
-use Rattle.slot_claims.specs.Sheet.{TypedSettings}
+use Rattle.settings_claims.specs.Sheet.{TypedSettings}
 use Rattle.clock.specs.declared.state.Clock.{Clock}
 use Rattle.clock.specs.State.{currentCycle, listOf}
 use Rattle.measuring.specs.Measuring.{frameOf}
@@ -24,10 +24,10 @@ typed-again =
             odd = refl;
           };
       measured =
-          λ c status d typed.
+          λ c status m typed.
           let l = listOf (currentCycle c) c in
           let own : TypedList l = of-list TypedList c (currentCycle c) (typed .even) (typed .odd) in
-          let rows = recorded-typed (frameOf status .id) (status .channel) (record { deviation = record { 0 = d } }) l own in
+          let rows = recorded-typed (frameOf status .id) (status .channel) m l own in
           record {
             settings = typed .settings;
             even = of-even TypedList c (currentCycle c) (typed .even) (typed .odd) rows;

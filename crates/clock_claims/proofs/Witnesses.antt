@@ -1,14 +1,16 @@
 -- The witnesses' statements, from the statements of the entries.
+use Prim.Native.Nat.{_+_, _*_}
 use mathlib.Core.Path.{_≡_, refl, sym, ap, subst, _∙_}
 use mathlib.Core.List.{List, [], _∷_, _++_, cons-ne-nil}
+use native.Mathlib.Omega.{arith}
 use lib.IntN.{ℤ, pos}
 use Rattle.refusal.specs.Refusal.{first}
 use Rattle.refusal.proofs.FirstLaws.{if-accepted}
-use Rattle.header.specs.declared.Cycle.{Cycle}
+use Rattle.base_types.specs.declared.cycle.Cycle.{Cycle}
 use Rattle.settings.specs.declared.Settings.{Settings}
 use Rattle.slot.specs.declared.status.Status.{Status}
-use Rattle.slot_claims.specs.Sheet.{TypedSettings}
-use Rattle.correction.specs.declared.microtick.Microtick.{Microtick}
+use Rattle.settings_claims.specs.Sheet.{TypedSettings}
+use Rattle.base_types.specs.declared.microtick.Microtick.{Microtick}
 use Rattle.clock.specs.declared.state.Clock.{Clock}
 use Rattle.clock.specs.declared.loading.Loaded.{Loaded}
 use Rattle.clock.specs.declared.opening.CycleOpened.{CycleOpened}
@@ -26,7 +28,7 @@ use Rattle.closing.specs.Closing.{CloseSays}
 use Rattle.clock_claims.specs.Typed.{TypedClock}
 use Rattle.clock_claims.specs.History.{Call, closeCycle, Answer, closed, nothing, next, answer, pastOf, answersOf, Past}
 use Rattle.clock_claims.specs.Histories.{Makes, MakesAll, Holds}
-use Rattle.clock_claims.specs.Witnesses.{LoadedWell, OpenedWell, MeasuredWell, ClosedWell, MadeBy, Played, ClosedAfter}
+use Rattle.clock_claims.specs.Witnesses.{LoadedWell, OpenedWell, MeasuredWell, ClosedWell, span, EveryCall, MadeBy, Played, ClosedAfter}
 use Rattle.clock_claims.proofs.Answers.{load-in-order, open-in-order, measure-in-order, close-in-order, load-field, load-refused, open-refused, measure-refused, close-refused}
 use Rattle.clock_claims.proofs.Histories.{histories, load-fresh}
 use Rattle.clock_claims.proofs.Reports.{reported-over}
@@ -67,7 +69,7 @@ measured-well c status observed actionPoint r typed h =
       accepted =
           λ e. (
             ap (λ (t : measuring.Told). t .deviation) (h .answers) ∙ if-accepted _ d (pos 0) (number e),
-            h .leaves ∙ if-accepted _ (measuring.measuredOn c status d) c (number e),
+            h .leaves ∙ if-accepted _ (measuring.measuredOn c status (measuring.measurementBy c status observed actionPoint)) c (number e),
             measured-sound c status observed actionPoint r typed h e,
           );
       refused = measure-refused c status observed actionPoint r h;
@@ -91,6 +93,9 @@ closed-well c offsetControl rateControl r typed h =
     }
 
 -- ---- sequences
+
+pub every-call : EveryCall
+every-call kind first second k f s = (kind + 8 * first + 8 * span * second, omega arith, omega arith, omega arith, omega arith)
 
 -- one call more, at the end
 makes-more : (c : Clock) (calls : List Call) (answers : List Answer) (m : Clock) (call : Call) (a : Answer) (d : Clock)

@@ -4,11 +4,11 @@
 use mathlib.Core.Path.{_≡_}
 use lib.IntN.{ℤ, pos}
 use Rattle.refusal.specs.Refusal.{InOrder}
-use Rattle.header.specs.declared.Cycle.{Cycle}
+use Rattle.base_types.specs.declared.cycle.Cycle.{Cycle}
 use Rattle.settings.specs.declared.Settings.{Settings}
 use Rattle.slot.specs.declared.status.Status.{Status}
-use Rattle.slot_claims.specs.Sheet.{TypedSettings, FieldTold}
-use Rattle.correction.specs.declared.microtick.Microtick.{Microtick}
+use Rattle.settings_claims.specs.Sheet.{TypedSettings, FieldTold}
+use Rattle.base_types.specs.declared.microtick.Microtick.{Microtick}
 use Rattle.clock.specs.declared.state.Clock.{Clock}
 use Rattle.clock.specs.declared.loading.Loaded.{Loaded}
 use Rattle.clock.specs.declared.opening.CycleOpened.{CycleOpened}

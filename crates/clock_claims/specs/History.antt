@@ -7,28 +7,29 @@ use lib.Dec.{eqb, leb}
 use lib.IntN.{ℤ, pos}
 use lib.ListN.{length}
 use Rattle.refusal.specs.Refusal.{Line, _when_, first, ifAccepted}
-use Rattle.checksum.specs.declared.Channel.{Channel}
-use Rattle.header.specs.declared.Cycle.{Cycle}
-use Rattle.header.specs.Refusals.{cycleTooHigh}
+use Rattle.base_types.specs.declared.channel.Channel.{Channel}
+use Rattle.base_types.specs.declared.cycle.Cycle.{Cycle}
+use Rattle.base_types.specs.Cycle.{cycleTooHigh}
 use Rattle.settings.specs.declared.Settings.{Settings}
-use Rattle.settings.specs.Sheet.{firstOutOfRange, outOfRange, syncIdLimit, decodingCorrection, offsetLimit, rateLimit, driftDamping}
+use Rattle.settings.specs.Sheet.{firstOutOfRange, outOfRange, syncIdLimit, offsetLimit, rateLimit, driftDamping}
 use Rattle.slot.specs.declared.status.Status.{Status}
 use Rattle.slot.specs.Sound as slot
-use Rattle.correction.specs.declared.microtick.Microtick.{Microtick}
+use Rattle.base_types.specs.declared.microtick.Microtick.{Microtick}
 use Rattle.correction.specs.declared.term.Term.{Term}
-use Rattle.correction.specs.Microtick.{aboveTimeLimit}
-use Rattle.correction.specs.Deviation.{deviation}
+use Rattle.base_types.specs.Microtick.{aboveTimeLimit, whole}
 use Rattle.correction.specs.Terms.{offsetTerm, rateTerm}
 use Rattle.correction.specs.External.{notAControl}
+use Rattle.sync_list.specs.declared.row.Measurement.{Measurement}
 use Rattle.sync_list.specs.Lists.{isAmong}
 use Rattle.measurements.specs.Measurements.{Taken, differentIds, sameChannel}
 use Rattle.measurements.specs.Terms.{offsetValuesOf, rateValuesOf}
 use Rattle.clock.specs.declared.state.CycleOrNone.{CycleOrNone}
 use Rattle.clock.specs.declared.state.CycleOrNone.the-variants.{NoCycle, Is}
-use Rattle.clock.specs.State.{isThere, cycleIn, isCycle, isOdd}
+use Rattle.base_types.specs.Cycle.{isOdd}
+use Rattle.clock.specs.State.{isThere, cycleIn, isCycle}
 use Rattle.clock.specs.Loading as loading
 use Rattle.measuring.specs.Measuring as measuring
-use Rattle.measuring.specs.Measuring.{frameOf, noSyncFrame, delayOn}
+use Rattle.measuring.specs.Measuring.{frameOf, noSyncFrame, deviationWith, measurementWith}
 use Rattle.closing.specs.declared.Report.{Report}
 use Rattle.closing.specs.Closing as closing
 use Rattle.closing.specs.Closing.{storedTerm, reportWith, noReport}
@@ -50,7 +51,7 @@ pub data Answer : Type 0 where
 
 -- ---- what has happened
 
--- A measurement in use: its cycle, and ID, channel and deviation.
+-- A measurement in use: its cycle, and what was taken in it.
 pub record InUse : Type 0 where
   pub cycle : ℕ
   pub taken : Taken
@@ -116,12 +117,15 @@ isTaken id channel (m ∷ ms) = (eqb (m .id) id && sameChannel (m .channel) chan
 abbrev pub isFull : Settings → ℕ → List Taken → Bool
 isFull settings id ms = leb (syncIdLimit settings) (length (differentIds ms)) && not (isAmong id (differentIds ms))
 
+-- The deviation and the measurement, by the settings that were loaded.
 abbrev pub deviationIn : Since → Status → Microtick → Microtick → ℤ
-deviationIn s status observed actionPoint =
-    deviation (observed .0) (decodingCorrection (s .settings)) (delayOn (status .channel) (s .settings)) (actionPoint .0)
+deviationIn s = deviationWith (s .settings)
 
-abbrev pub afterMeasuring : Since → Status → ℤ → Since
-afterMeasuring s status d =
+abbrev pub measurementIn : Since → Status → Microtick → Microtick → Measurement
+measurementIn s = measurementWith whole (s .settings)
+
+abbrev pub afterMeasuring : Since → Status → Measurement → Since
+afterMeasuring s status m =
     record {
       settings = s .settings;
       opened = s .opened;
@@ -130,7 +134,7 @@ afterMeasuring s status d =
       inUse =
           record {
             cycle = current s .0;
-            taken = record { id = frameOf status .id .0; channel = status .channel; deviation = d };
+            taken = record { id = frameOf status .id .0; channel = status .channel; measurement = m };
           } ∷ s .inUse;
     }
 
@@ -192,7 +196,7 @@ next (since s) (openCycle cycle) = since (ifAccepted (first (openRefusals s cycl
 next (since s) (measure status observed actionPoint) =
     since
     (ifAccepted (first (measureRefusals s status observed actionPoint))
-    (afterMeasuring s status (deviationIn s status observed actionPoint)) s)
+    (afterMeasuring s status (measurementIn s status observed actionPoint)) s)
 next (since s) (closeCycle offsetControl rateControl) = since (ifAccepted (first (closeRefusals s offsetControl rateControl)) (afterClosing s) s)
 
 -- What a call answers. Where nothing is loaded, every call but a load is refused with 23.

@@ -12,7 +12,8 @@ use Rattle.sync_list.specs.Lists.{listed}
 use Rattle.measurements.specs.Measurements.{Taken, standsFor, differentIds}
 use Rattle.measurements.specs.Terms.{offsetValuesOf, rateValuesOf}
 use Rattle.clock.specs.declared.state.Clock.{Clock}
-use Rattle.clock.specs.State.{isOdd, currentCycle, listOf}
+use Rattle.base_types.specs.Cycle.{isOdd}
+use Rattle.clock.specs.State.{currentCycle, listOf}
 use Rattle.closing.specs.declared.CycleClosed.{CycleClosed}
 use Rattle.closing.specs.declared.Report.{Report}
 use Rattle.closing.specs.Closing as closing

@@ -9,13 +9,15 @@ use mathlib.Core.Logic.{_↔_}
 use lib.IntN.{ℤ, pos, negℤ}
 use lib.ListN.{length}
 use lib.Signed.{leZ}
-use Rattle.header.specs.declared.Cycle.{Cycle}
+use Rattle.base_types.specs.Cycle.{highestCycle}
+use Rattle.base_types.specs.Slot.{highestId}
+use Rattle.base_types.specs.declared.cycle.Cycle.{Cycle}
 use Rattle.settings.specs.declared.Settings.{Settings}
 use Rattle.settings.specs.Sheet.{syncIdLimit, rateLimit}
 use Rattle.slot.specs.declared.status.Status.{Status}
-use Rattle.slot_claims.specs.Sheet.{AllInRange}
-use Rattle.correction.specs.declared.microtick.Microtick.{Microtick}
-use Rattle.correction.specs.Microtick.{lowestDeviation, highestDeviation}
+use Rattle.settings_claims.specs.Sheet.{AllInRange}
+use Rattle.base_types.specs.declared.microtick.Microtick.{Microtick}
+use Rattle.base_types.specs.Microtick.{lowestDeviation, highestDeviation}
 use Rattle.sync_list.specs.declared.row.Measured.the-variants.{Nothing}
 use Rattle.sync_list.specs.declared.row.Row.{Row}
 use Rattle.sync_list.specs.declared.list.SyncList.{SyncList}
@@ -44,7 +46,7 @@ use Rattle.clock_claims.specs.Typed.{TypedClock}
 
 -- "each 1 to 2047".
 abbrev pub IsId : ℕ → Type 0
-IsId id = (1 ≤ id) × (id ≤ 2047)
+IsId id = (1 ≤ id) × (id ≤ highestId)
 
 -- "with deviations in their range".
 abbrev pub IsDeviation : ℤ → Type 0
@@ -60,7 +62,7 @@ pub record GoodList (limit : ℕ) (ms : List Taken) : Type 0 where
   pub few : length (differentIds ms) ≤ limit
   pub ids : (m : Taken) → List·Memᴰ m ms → IsId (m .id)
   pub once : OncePerChannel ms
-  pub ranged : (m : Taken) → List·Memᴰ m ms → IsDeviation (m .deviation)
+  pub ranged : (m : Taken) → List·Memᴰ m ms → IsDeviation (m .measurement .deviation .0)
 
 -- ---- the rows that stand for it
 
@@ -79,14 +81,14 @@ pub record GoodRows (l : SyncList) : Type 0 where
 -- ---- a clock state
 
 -- "its cycles at most 63", of one that is there.
-abbrev pub CycleAtMost63 : CycleOrNone → Type 0
-CycleAtMost63 c = (cycle : Cycle) → c ≡ Is cycle → cycle .0 ≤ 63
+abbrev pub CycleAtMostHighest : CycleOrNone → Type 0
+CycleAtMostHighest c = (cycle : Cycle) → c ≡ Is cycle → cycle .0 ≤ highestCycle
 
 -- 01's sentence in words.
 pub record SoundClock (c : Clock) : Type 0 where
   pub settings : AllInRange (c .settings)
-  pub opened : CycleAtMost63 (c .opened)
-  pub lastClosed : CycleAtMost63 (c .«last_closed»)
+  pub opened : CycleAtMostHighest (c .opened)
+  pub lastClosed : CycleAtMostHighest (c .«last_closed»)
   pub even : GoodList (syncIdLimit (c .settings)) (standsFor (listed (c .even)))
   pub odd : GoodList (syncIdLimit (c .settings)) (standsFor (listed (c .odd)))
   pub rate : (leZ (negℤ (pos (rateLimit (c .settings)))) (c .rate .0) ≡ true) × (leZ (c .rate .0) (pos (rateLimit (c .settings))) ≡ true)

@@ -1,16 +1,17 @@
 -- What the witnesses show: the claims, of what the code answers.
-use Prim.Native.Nat.{ℕ, _/_, _%_}
+use Prim.Native.Nat.{ℕ, _+_, _*_, _/_, _%_, _^_, _<_}
 use mathlib.Core.Path.{_≡_}
 use mathlib.Core.Bool.{true, cond}
 use mathlib.Core.List.{List, map}
 use lib.Dec.{eqb}
 use lib.IntN.{ℤ, pos, negℤ}
 use Rattle.refusal.specs.Refusal.{InOrder}
-use Rattle.header.specs.declared.Cycle.{Cycle}
+use Rattle.base_types.specs.declared.cycle.Cycle.{Cycle}
 use Rattle.settings.specs.declared.Settings.{Settings}
 use Rattle.slot.specs.declared.status.Status.{Status}
-use Rattle.slot_claims.specs.Sheet.{FieldTold}
-use Rattle.correction.specs.declared.microtick.Microtick.{Microtick}
+use Rattle.settings_claims.specs.Sheet.{FieldTold}
+use Rattle.base_types.specs.declared.microtick.Microtick.{Microtick}
+use Rattle.base_types.specs.Microtick.{timeLimit}
 use Rattle.clock.specs.declared.state.Clock.{Clock}
 use Rattle.clock.specs.declared.loading.Loaded.{Loaded}
 use Rattle.clock.specs.declared.opening.CycleOpened.{CycleOpened}
@@ -47,7 +48,7 @@ pub record MeasuredWell (c : Clock) (status : Status) (observed actionPoint : Mi
   pub inOrder : InOrder (measuring.measureRefusals c status observed actionPoint) (measuring.told (r .answer) .number)
   pub accepted : measuring.told (r .answer) .number ≡ 0
       → (measuring.told (r .answer) .deviation ≡ measuring.deviationBy c status observed actionPoint)
-      × (r .clock ≡ measuring.measuredOn c status (measuring.deviationBy c status observed actionPoint))
+      × (r .clock ≡ measuring.measuredOn c status (measuring.measurementBy c status observed actionPoint))
       × (sound (r .clock) ≡ true)
   pub refused : (measuring.told (r .answer) .number ≡ 0 → ⊥) → (measuring.told (r .answer) .deviation ≡ pos 0) × (r .clock ≡ c)
 
@@ -61,12 +62,22 @@ pub record ClosedWell (c : Clock) (offsetControl rateControl : ℤ) (r : CycleCl
 
 -- ---- whole sequences
 
--- A call from a number: its kind by 8, then two numbers below 2 ^ 21, which is above the time limit.
+-- How many times there are up to one above the limit: every one that is accepted, and one that is not.
+abbrev pub span : ℕ
+span = timeLimit + 2
+
+-- A call from a number: its kind by 8, then two such times.
 abbrev pub firstIn : ℕ → ℕ
-firstIn number = number / 8 % 2097152
+firstIn number = number / 8 % span
 
 abbrev pub secondIn : ℕ → ℕ
-secondIn number = number / 16777216 % 2097152
+secondIn number = number / (8 * span) % span
+
+-- Every kind with any two such times has its number, which a u64 holds: `played` is not about a few calls.
+abbrev pub EveryCall : Type 0
+EveryCall =
+    (kind first second : ℕ) → kind < 8 → first < span → second < span
+    → (number : ℕ) × (number < 2 ^ 64) × (number % 8 ≡ kind) × (firstIn number ≡ first) × (secondIn number ≡ second)
 
 -- -1, 0, 1, and 2, which is no control.
 abbrev pub controlOf : ℕ → ℤ

@@ -6,12 +6,12 @@ ghost use mathlib.Core.Logic.{_↔_};
 ghost use Rattle.clock_claims.specs.Sound.{SoundClock};
 ghost use Rattle.clock_claims.specs.Histories.{Leaves};
 ghost use Rattle.clock_claims.specs.Witnesses.{LoadedWell, OpenedWell, MeasuredWell, ClosedWell, controlOf, callOf, callsOf, Played, ClosedAfter};
+use base_types::Cycle;
+use base_types::Microtick;
 use clock::Clock;
 use clock::CycleOpened;
 use clock::Loaded;
 use closing::CycleClosed;
-use correction::Microtick;
-use header::Cycle;
 use measuring::FrameMeasured;
 use settings::Settings;
 use slot::Status;
@@ -77,6 +77,12 @@ fn control_of(number: u64) -> i32
     2
 }
 
+// How many times there are up to one above the limit.
+const SPAN: u64 = Microtick::LIMIT as u64 + 2;
+
+// Where the second time starts in a number: behind the kind and the first.
+const SECOND: u64 = 8 * SPAN;
+
 // One call, by its number.
 fn called(
     sheet: Settings,
@@ -89,8 +95,8 @@ fn called(
     ensures { λ r. ⌜ Leaves state (callOf sheet «other_sheet» status «other_status» number) r ⌝ }
 {
     let kind = number % 8;
-    let first = number / 8 % 2_097_152;
-    let second = number / 16_777_216 % 2_097_152;
+    let first = number / 8 % SPAN;
+    let second = number / SECOND % SPAN;
     if kind == 0 {
         let result = clock::load(sheet);
         return result.clock;
@@ -126,7 +132,8 @@ fn called(
     result.clock
 }
 
-// Plays one call for each number, loads and refused calls among them, from the all-zero state on. The state at the end.
+// Plays one call for each number, loads and refused calls among them, from the all-zero state on. The state at the end. Every kind of
+// call with any two times up to one above the limit has its number (`EveryCall`).
 pub fn played(
     sheet: Settings,
     other_sheet: Settings,

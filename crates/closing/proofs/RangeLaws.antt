@@ -15,16 +15,17 @@ use Rattle.midpoint.specs.Midpoint.{midpoint}
 use Rattle.midpoint.proofs.RangeLaws.{Near, Within, none, more, midpoint-within}
 use Rattle.settings.specs.Sheet.{field, ranges, syncIdLimit, offsetLimit, rateLimit, driftDamping, externalOffsetUnit, externalRateUnit}
 use Rattle.correction.specs.declared.external.Control.{Control}
-use Rattle.correction.specs.Microtick.{held}
+use Rattle.base_types.specs.Microtick.{held}
 use Rattle.correction.specs.Terms.{withOwn, isOutside, within, limited, damped, offsetTerm, rateTerm, rateTermBy}
 use Rattle.correction.specs.External.{signOf, externalTerm, withExternal}
 use Rattle.correction.proofs.ControlLaws.{external-small}
-use Rattle.correction.proofs.HeldLaws.{held-fits}
+use Rattle.base_types.proofs.HeldLaws.{held-fits}
 use Rattle.sync_list.specs.Lists.{listed}
 use Rattle.list_values.specs.Values.{offsetValues, rateValues, rateValuesBy}
 use Rattle.list_values.proofs.RangeLaws.{spread, rates-held, rates-near}
 use Rattle.clock.specs.declared.state.Clock.{Clock}
-use Rattle.clock.specs.State.{isOdd, currentCycle, listOf}
+use Rattle.base_types.specs.Cycle.{isOdd}
+use Rattle.clock.specs.State.{currentCycle, listOf}
 use Rattle.clock.specs.Sound.{sound}
 use Rattle.clock.proofs.SoundLaws.{clauses, highest, at-most, rows-good, not-outside}
 use Rattle.closing.specs.Closing.{offsetFound, rateFound}

@@ -7,7 +7,7 @@ use lib.IntN.{ℤ, pos}
 use Rattle.refusal.specs.Refusal.{Line, _when_, first, ifAccepted}
 use Rattle.settings.specs.declared.Settings.{Settings}
 use Rattle.settings.specs.Sheet.{offsetLimit, rateLimit, driftDamping, externalOffsetUnit, externalRateUnit}
-use Rattle.correction.specs.declared.microtick.SignedMicrotick.{SignedMicrotick}
+use Rattle.base_types.specs.declared.microtick.SignedMicrotick.{SignedMicrotick}
 use Rattle.correction.specs.declared.term.Term.{Term}
 use Rattle.correction.specs.Terms.{offsetTerm, rateTerm}
 use Rattle.correction.specs.External.{notAControl, withExternal}
@@ -19,7 +19,8 @@ use Rattle.closing.specs.declared.Report.{Report}
 use Rattle.closing.specs.declared.Closing.{Closing}
 use Rattle.closing.specs.declared.Closing.the-variants as closing
 use Rattle.closing.specs.declared.CycleClosed.{CycleClosed}
-use Rattle.clock.specs.State.{isThere, isOdd, currentCycle, listOf}
+use Rattle.base_types.specs.Cycle.{isOdd}
+use Rattle.clock.specs.State.{isThere, currentCycle, listOf}
 use Rattle.clock.specs.Sound.{sound}
 
 -- "Close cycle: 23, 18, 21."

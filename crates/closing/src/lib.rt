@@ -6,11 +6,11 @@ ghost use mathlib.Core.Bool.{true};
 ghost use Rattle.correction.specs.External.{signOf};
 ghost use Rattle.clock.specs.Sound.{sound};
 ghost use Rattle.closing.specs.Closing.{told, offsetFound, rateFound, reportOf, closedWith, CloseSays};
+use base_types::SignedMicrotick;
 use clock::Clock;
 use clock::CycleOrNone;
 use correction::Control;
 use correction::NamedControl;
-use correction::SignedMicrotick;
 use correction::Term;
 
 // What a closed cycle reports.
@@ -129,7 +129,7 @@ fn rate_found(clock: Clock) -> Term
     let even = clock.even;
     let odd = clock.odd;
     let stored = clock.rate;
-    if !clock::is_odd(clock.current_cycle()) {
+    if !clock.current_cycle().is_odd() {
         return Term {
             value: stored,
             is_missing: false,
@@ -146,7 +146,7 @@ fn rate_found(clock: Clock) -> Term
     )
 }
 
-// The report, with the external term added to each term at last. The rate term is handed in: the rate that is stored is of it too.
+// The report, with the external term added to each term last. The rate term is handed in, since the stored rate is taken from it too.
 fn report_of(clock: Clock, rate: Term, offset_control: Control, rate_control: Control) -> Report
     requires { ⌜ (sound clock ≡ true) × (rate ≡ rateFound clock) ⌝ }
     ensures { λ r. ⌜ r ≡ reportOf clock (signOf «offset_control») (signOf «rate_control») ⌝ }

@@ -1,4 +1,3 @@
-pub mod Microtick
 pub mod Deviation
 pub mod Values
 pub mod Terms

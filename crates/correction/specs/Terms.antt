@@ -7,7 +7,7 @@ use lib.IntN.{ℤ, pos, negℤ, _+ℤ_, _-ℤ_}
 use lib.ListN.{take}
 use lib.Signed.{ltZ}
 use Rattle.midpoint.specs.Midpoint.{midpoint}
-use Rattle.correction.specs.Microtick.{whole}
+use Rattle.base_types.specs.Microtick.{whole}
 use Rattle.correction.specs.declared.term.Term.{Term}
 use Rattle.correction.specs.declared.term.Values.{Values}
 

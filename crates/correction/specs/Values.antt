@@ -3,7 +3,7 @@ use mathlib.Core.Bool.{cond}
 use lib.IntN.{ℤ, _+ℤ_, _-ℤ_}
 use lib.Signed.{ltZ}
 use Rattle.midpoint.specs.Midpoint.{half}
-use Rattle.correction.specs.Microtick.{whole}
+use Rattle.base_types.specs.Microtick.{whole}
 use Rattle.correction.specs.declared.value.Value.{Value}
 use Rattle.correction.specs.declared.value.Value.the-variants.{Absent, Is}
 use Rattle.correction.specs.declared.value.Deviations.{Deviations}

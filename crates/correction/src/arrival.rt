@@ -1,9 +1,9 @@
 // How far a frame came from its expected time.
 ghost use mathlib.Core.Path.{_≡_};
-ghost use Rattle.correction.specs.Microtick.{held};
+ghost use Rattle.base_types.specs.Microtick.{held};
 ghost use Rattle.correction.specs.Deviation.{deviation as Deviation·deviation};
-use crate::microtick::Microtick;
-use crate::microtick::SignedMicrotick;
+use base_types::Microtick;
+use base_types::SignedMicrotick;
 
 // The deviation of a frame: below zero where it came early. `correction` is the decoding correction, `delay` that of its channel.
 pub fn deviation(

@@ -1,8 +1,8 @@
 // The external term, which a host may add to each reported term.
 ghost use mathlib.Core.Path.{_≡_};
-ghost use Rattle.correction.specs.Microtick.{held};
+ghost use Rattle.base_types.specs.Microtick.{held};
 ghost use Rattle.correction.specs.External.{controlNamed, signOf, externalTerm, withExternal};
-use crate::microtick::SignedMicrotick;
+use base_types::SignedMicrotick;
 
 // What a host asks of a term: a unit less, nothing, or a unit more.
 pub enum Control {

@@ -1,10 +1,9 @@
-// The arithmetic of clock correction (document 01, "Clock"): times, deviations, the values and terms that are worked out of them.
+// The arithmetic of clock correction (document 01, "Clock"): deviations, and the values and terms that are worked out of them.
 //
 // Everything here takes whatever comes. Sums are made wide and brought back to the signed type, which holds them as they are for
 // every sound clock state and every accepted number, and holds 0 for what is too large for it.
 mod arrival;
 mod external;
-mod microtick;
 mod term;
 mod value;
 
@@ -12,8 +11,6 @@ pub use arrival::deviation;
 pub use external::Control;
 pub use external::NamedControl;
 pub use external::with_external;
-pub use microtick::Microtick;
-pub use microtick::SignedMicrotick;
 pub use term::MOST_IDS;
 pub use term::Term;
 pub use term::Values;

@@ -2,9 +2,9 @@
 ghost use mathlib.Core.Path.{_≡_};
 ghost use Prim.Native.Nat.{_≤_};
 ghost use Rattle.midpoint.specs.Midpoint.{midpoint};
-ghost use Rattle.correction.specs.Microtick.{held};
+ghost use Rattle.base_types.specs.Microtick.{held};
 ghost use Rattle.correction.specs.Terms.{mostIds, valuesIn, isNone, withOwn, damped as Terms·damped, limited as Terms·limited, offsetTerm, rateTermBy};
-use crate::microtick::SignedMicrotick;
+use base_types::SignedMicrotick;
 
 // The most IDs that a list holds: the highest value of field 4.
 pub const MOST_IDS: usize = 15;

@@ -1,8 +1,8 @@
 // What an ID adds to a midpoint: one value for the offset, one for the rate, or none.
 ghost use mathlib.Core.Path.{_≡_};
-ghost use Rattle.correction.specs.Microtick.{held};
+ghost use Rattle.base_types.specs.Microtick.{held};
 ghost use Rattle.correction.specs.Values.{smaller as Values·smaller, differenceBy, joined as Values·joined, offsetValue, rateValueBy};
-use crate::microtick::SignedMicrotick;
+use base_types::SignedMicrotick;
 
 // A number of signed microticks, or none.
 pub enum Value {

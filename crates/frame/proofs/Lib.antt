@@ -1,3 +1,2 @@
-pub mod NumberLaws
 pub mod ReadLaws
 pub mod AnswerLaws

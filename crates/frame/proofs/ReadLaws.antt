@@ -11,7 +11,7 @@ use Rattle.refusal.proofs.FirstLaws.{first-zero}
 use Rattle.division.specs.Bits.{bits, number, bytesBits}
 use Rattle.division.proofs.BitsLaws.{bits-number}
 use Rattle.division.proofs.BytesLaws.{length-bytes, bytes-append}
-use Rattle.checksum.specs.Channel.{notAChannel}
+use Rattle.base_types.specs.Channel.{notAChannel}
 use Rattle.header.specs.Layout.{headerIn}
 use Rattle.header.proofs.HeaderLaws.{header-front}
 use Rattle.frame.specs.Refusals.{tooShort}

@@ -4,8 +4,10 @@ use mathlib.Core.Path.{_≡_}
 use mathlib.Core.Bool.{Bool, true}
 use mathlib.Core.List.{List, _++_}
 use lib.ListN.{length}
+use Rattle.base_types.specs.Cycle.{highestCycle}
+use Rattle.base_types.specs.Slot.{highestId}
 use Rattle.division.specs.Bits.{bits, bytesBits, AreBytes}
-use Rattle.checksum.specs.declared.Channel.{Channel}
+use Rattle.base_types.specs.declared.channel.Channel.{Channel}
 use Rattle.checksum.specs.Checksums.{frameDivision}
 use Rattle.header.specs.declared.Header.{Header}
 use Rattle.header.specs.Layout.{mostWords, wholeHeader, headerChecksumOf}
@@ -28,11 +30,11 @@ pub record Frame (channel : Channel) (bytes : List ℕ) (header : Header) (paylo
   -- The header checksum is the one that belongs there.
   pub checksum : header .checksum ≡ headerChecksumOf header
   -- "frame ID, 1 to 2047".
-  pub id : (1 ≤ header .id .0) × (header .id .0 ≤ 2047)
+  pub id : (1 ≤ header .id .0) × (header .id .0 ≤ highestId)
   -- The payload length, in words, which is the payload's.
   pub words : header .words ≤ mostWords
   pub payloadLength : length payload ≡ 2 * header .words
   -- "cycle, 0 to 63".
-  pub cycle : header .cycle .0 ≤ 63
+  pub cycle : header .cycle .0 ≤ highestCycle
   -- Startup is set only with sync.
   pub startup : header .startup ≡ true → header .sync ≡ true

@@ -6,8 +6,8 @@ use mathlib.Core.List.{List, [], _∷_}
 use lib.ListN.{length, take, drop}
 use Rattle.refusal.specs.Refusal.{Line, _when_, first, ifAccepted}
 use Rattle.division.specs.Bits.{number, bytesBits}
-use Rattle.checksum.specs.declared.Channel.{Channel}
-use Rattle.checksum.specs.Channel.{notAChannel, channelOf}
+use Rattle.base_types.specs.declared.channel.Channel.{Channel}
+use Rattle.base_types.specs.Channel.{notAChannel, channelOf}
 use Rattle.header.specs.declared.Header.{Header}
 use Rattle.header.specs.Layout.{headerIn, noHeader}
 use Rattle.header.specs.Refusals.{startupWithoutSync}
@@ -65,9 +65,16 @@ refusalsOn channel bytes =
 abbrev pub refusals : ℕ → List ℕ → List Line
 refusals channel bytes = 1 when notAChannel channel ∷ refusalsOn (channelOf channel) bytes
 
--- What is right, given the number of the refusal.
+-- What is right to tell of bytes, given the number of their refusal.
+abbrev pub tells : ℕ → List ℕ → Told
+tells refusal bytes = record { number = refusal; header = ifAccepted refusal (headerRead bytes) noHeader }
+
+-- What is right on a channel, and on one that is given by its number.
+abbrev pub ruleOn : Channel → List ℕ → Told
+ruleOn channel bytes = tells (first (refusalsOn channel bytes)) bytes
+
 abbrev pub rule : ℕ → List ℕ → Told
-rule refusal bytes = record { number = refusal; header = ifAccepted refusal (headerRead bytes) noHeader }
+rule channel bytes = tells (first (refusals channel bytes)) bytes
 
 abbrev pub partRule : ℕ → List ℕ → List ℕ
 partRule refusal bytes = ifAccepted refusal (payloadRead bytes) []
@@ -75,10 +82,10 @@ partRule refusal bytes = ifAccepted refusal (payloadRead bytes) []
 -- ---- the statements
 
 abbrev pub ReadSays : ℕ → List ℕ → Reading → Type 0
-ReadSays channel bytes answer = told answer ≡ rule (first (refusals channel bytes)) bytes
+ReadSays channel bytes answer = told answer ≡ rule channel bytes
 
 abbrev pub ReadOnSays : Channel → List ℕ → Reading → Type 0
-ReadOnSays channel bytes answer = told answer ≡ rule (first (refusalsOn channel bytes)) bytes
+ReadOnSays channel bytes answer = told answer ≡ ruleOn channel bytes
 
 abbrev pub PayloadSays : ℕ → List ℕ → List ℕ → Type 0
 PayloadSays channel bytes payload = payload ≡ partRule (first (refusals channel bytes)) bytes

@@ -1,15 +1,15 @@
 -- The conditions behind the refusals of reading, each alone (01, "Refusal numbers": "given exactly when"), but for 7, which is in the
--- crate `header`, and for 1, which is `notAChannel` of the crate `checksum`.
+-- crate `header`, and for 1, which is `notAChannel` of the crate `base_types`.
 use Prim.Native.Nat.{ℕ, _+_, _*_, _-_}
 use mathlib.Core.Bool.{Bool, not, _||_}
 use mathlib.Core.List.{List}
 use lib.Dec.{eqb, ltb}
 use lib.ListN.{length, take}
 use Rattle.division.specs.Bits.{odd}
-use Rattle.checksum.specs.declared.Channel.{Channel}
+use Rattle.base_types.specs.declared.channel.Channel.{Channel}
 use Rattle.checksum.specs.Checksums.{frameChecksum}
 use Rattle.header.specs.declared.Header.{Header}
-use Rattle.header.specs.Layout.{headerChecksumOf}
+use Rattle.header.specs.Layout.{longestFrame, headerChecksumOf}
 
 -- 2: "fewer than 8 bytes".
 abbrev pub tooShort : List ℕ → Bool
@@ -17,7 +17,7 @@ tooShort bytes = ltb (length bytes) 8
 
 -- 3: "odd size, or more than 262".
 abbrev pub badSize : List ℕ → Bool
-badSize bytes = odd (length bytes) || ltb 262 (length bytes)
+badSize bytes = odd (length bytes) || ltb longestFrame (length bytes)
 
 -- 4: "header checksum differs".
 abbrev pub headerChecksumDiffers : Header → Bool

@@ -3,13 +3,10 @@
 // Entries: `read` and `payload` on a channel number and bytes. For the crates above: `read_on` for a channel that is known to be one.
 // What a header is stands in the crate `header`.
 ghost use mathlib.Core.Path.{_≡_};
-ghost use Prim.Native.Nat.{_≤_};
-ghost use lib.ListN.{length};
 ghost use denote.Ref.{ptr};
-ghost use Rattle.division.specs.Bits.{number as Bits·number, bytesBits};
 ghost use Rattle.frame.specs.Read.{told, ReadSays, ReadOnSays, PayloadSays, PayloadLies, PartSays, PartLies};
-use checksum::Channel;
-use checksum::Named;
+use base_types::Channel;
+use base_types::Named;
 use header::Header;
 
 // What reading answers: the header, or what is wrong with the bytes.
@@ -74,13 +71,12 @@ pub fn read_on(channel: Channel, bytes: &[u8]) -> Reading
     if bytes.len() % 2 == 1 {
         return Reading::BadSize;
     }
-    if 262 < bytes.len() {
+    if Header::LONGEST_FRAME < bytes.len() {
         return Reading::BadSize;
     }
-    let sent = number_of(&bytes[0..5]);
+    let sent = lent_bytes::number_in(&bytes[0..5]);
     let header = header::unpacked(sent);
-    // Worked out before 4 is tried: a build that tries 6 before 5 then differs in the order alone, and it is the order that it is
-    // refused for.
+    // Worked out before 4 is tried (DECISIONS 70): a build that tries 6 before 5 then differs in the order alone, and is refused for it.
     let id = header.id.0;
     let size = 8 + 2 * header.words as usize;
     if header.checksum != header::checksum_of(sent) {
@@ -96,25 +92,11 @@ pub fn read_on(channel: Channel, bytes: &[u8]) -> Reading
         return Reading::StartupWithoutSync;
     }
     let end = bytes.len() - 3;
-    let trailer = number_of(&bytes[end..]);
+    let trailer = lent_bytes::number_in(&bytes[end..]);
     if trailer != checksum::frame_checksum_on(channel, &bytes[0..end]) as u64 {
         return Reading::FrameChecksumDiffers;
     }
     Reading::Accepted(header)
-}
-
-// The number that at most eight bytes make, the most significant first.
-fn number_of(bytes: &[u8]) -> u64
-    requires { ⌜ length (now bytes) ≤ 8 ⌝ }
-    ensures { λ r. ⌜ r ≡ Bits·number (bytesBits (now (bytes .entry))) ⌝ }
-{
-    let mut r = 0;
-    let mut i = 0;
-    while i < bytes.len() {
-        r = r * 256 + bytes[i] as u64;
-        i += 1;
-    }
-    r
 }
 
 // The payload of a frame: the caller's own bytes from 5 up to size minus 3. An empty part where the frame is refused.

@@ -2,9 +2,10 @@
 use mathlib.Core.Path.{_≡_, refl, sym, ap, _∙_}
 use mathlib.Core.List.{[], _∷_}
 use lib.ListN.{getD}
+use Rattle.refusal.proofs.AnswerLaws.{one-answer}
 use Rattle.refusal.specs.Refusal.{numbered}
 use Rattle.refusal.proofs.FirstLaws.{told-in-order, if-refused}
-use Rattle.checksum.specs.Channel.{channelOf}
+use Rattle.base_types.specs.Channel.{channelOf}
 use Rattle.frame.specs.declared.Reading.{Reading}
 use Rattle.frame.specs.declared.Reading.the-variants as reading
 use Rattle.writing.specs.declared.Writing.{Writing}
@@ -15,10 +16,6 @@ use Rattle.writing.specs.Write as write
 use Rattle.frame_claims.specs.Answers.{ReadOne, ReadOnOne, PayloadOne, WriteOne, ReadInOrder, WriteInOrder, RefusedUnchanged, RefusedEmpty}
 
 -- ---- one answer
-
--- a number names one case, so answers that say the same in 01's numbers are one answer
-pub one-answer : {A T : Type 0} (told : A → T) (by : T → A) → ((a : A) → by (told a) ≡ a) → {t : T} (a b : A) → told a ≡ t → told b ≡ t → a ≡ b
-one-answer told by back a b ea eb = sym (back a) ∙ ap by (ea ∙ sym eb) ∙ back b
 
 readingBy : read.Told → Reading
 readingBy t =

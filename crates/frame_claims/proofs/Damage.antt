@@ -9,9 +9,9 @@ use Rattle.division.specs.Word.{word, EndsInChecksum}
 use Rattle.division.proofs.BitsLaws.{length-bits, bits-inj}
 use Rattle.division.proofs.BytesLaws.{append-apart, bytes-inj, length-bytes}
 use Rattle.division.proofs.RegisterLaws.{checksum-lt}
-use Rattle.checksum.specs.declared.Channel.{Channel}
-use Rattle.checksum.specs.declared.Channel.the-variants.{A, B}
-use Rattle.checksum.specs.Channel.{startOf}
+use Rattle.base_types.specs.declared.channel.Channel.{Channel}
+use Rattle.base_types.specs.declared.channel.Channel.the-variants.{A, B}
+use Rattle.base_types.specs.Channel.{startOf}
 use Rattle.checksum.specs.Checksums.{framePolynomial, frameDivision}
 use Rattle.checksum_claims.proofs.Checksums.{frame-facts, frames-four}
 use Rattle.header.specs.declared.Header.{Header}

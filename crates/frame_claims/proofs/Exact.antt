@@ -13,14 +13,17 @@ use Rattle.numbers.proofs.Truth.{neither}
 use Rattle.division.specs.Bits.{odd, bits, bytesBits, bytesOf, AreBytes}
 use Rattle.division.proofs.BitsLaws.{length-bits}
 use Rattle.division.proofs.BytesLaws.{bytes-append, bytes-inj, are-bytes-of, are-bytes-append, bits-bytes-of}
-use Rattle.checksum.specs.declared.Channel.{Channel}
-use Rattle.checksum.specs.Channel.{notAChannel, channelOf}
+use Rattle.base_types.specs.declared.channel.Channel.{Channel}
+use Rattle.base_types.specs.Channel.{notAChannel, channelOf}
 use Rattle.checksum.specs.Checksums.{frameDivision, frameChecksum}
-use Rattle.checksum.proofs.ChannelLaws.{named-is, is-named, one-channel}
+use Rattle.base_types.proofs.SlotLaws.{id-range}
+use Rattle.base_types.proofs.ChannelLaws.{named-is, is-named, one-channel}
 use Rattle.header.specs.declared.Header.{Header}
 use Rattle.header.specs.declared.Fields.{Fields}
-use Rattle.header.specs.Layout.{wholeHeader, noHeader}
-use Rattle.header.specs.Refusals.{notAnId, cycleTooHigh, startupWithoutSync}
+use Rattle.header.specs.Layout.{mostPayload, wholeHeader, noHeader}
+use Rattle.base_types.specs.Slot.{notAnId}
+use Rattle.base_types.specs.Cycle.{highestCycle, cycleTooHigh}
+use Rattle.header.specs.Refusals.{startupWithoutSync}
 use Rattle.frame.specs.declared.Reading.the-variants.{Accepted}
 use Rattle.writing.specs.declared.Writing.{Writing}
 use Rattle.writing.specs.declared.Writing.the-variants.{Written, ReservedSet}
@@ -35,7 +38,7 @@ use Rattle.lent_bytes.proofs.OverLaws.{take-over, drop-over, length-over}
 use Rattle.writing.proofs.WriteLaws.{length-frame, write-refused, write-accepted}
 use Rattle.frame_claims.specs.Exact.{FrameOn, fieldsOf, ReadExactly, WriteGivesFrame, WriteGivesOnly, ReadThenWrite, ReservedNotWritten, WriteThenRead}
 use Rattle.frame_claims.proofs.Answers.{read-one, write-one}
-use Rattle.frame_claims.proofs.FrameLaws.{length-whole, frame-size, id-range, good-payload, from-fields}
+use Rattle.frame_claims.proofs.FrameLaws.{length-whole, frame-size, good-payload, from-fields}
 use Rattle.frame_claims.proofs.Reading.{only-with, with-only, accepted-frame, frame-header, frame-payload, frame-accepted}
 
 -- ---- reading
@@ -59,7 +62,7 @@ module _ {channel : ℕ} {bytes : List ℕ} {header : Header} {payload : List �
 
   pub frame-says : ReadSays channel bytes (Accepted header)
   frame-says =
-      ap (λ (h : Header). record { number = 0; header = h }) (sym (frame-header (f .frame))) ∙ ap (λ (n : ℕ). read.rule n bytes) (sym frame-none)
+      ap (λ (h : Header). record { number = 0; header = h }) (sym (frame-header (f .frame))) ∙ ap (λ (n : ℕ). read.tells n bytes) (sym frame-none)
 
   pub frame-part : {part : List ℕ} → PayloadSays channel bytes part → part ≡ payload
   frame-part gives = gives ∙ if-accepted (first (read.refusals channel bytes)) (payloadRead bytes) [] frame-none ∙ frame-payload (f .frame)
@@ -115,8 +118,8 @@ module _ (channel : Channel) (fields : Fields) (payload : List ℕ) (are : AreBy
       → startupWithoutSync (fields .startup) (fields .sync) ≡ false
       → Frame channel (frameBytes channel fields payload) (headerOf fields (length payload / 2)) payload
   written-frame id size cycle startup =
-      let sizes = neither (odd (length payload)) (ltb 254 (length payload)) size in
-      let at-most : length payload ≤ 254 = ltb-false 254 (length payload) (sizes .1) in
+      let sizes = neither (odd (length payload)) (ltb mostPayload (length payload)) size in
+      let at-most : length payload ≤ mostPayload = ltb-false mostPayload (length payload) (sizes .1) in
       let even = eqb-false (length payload % 2) 1 (sizes .0) in
       record {
         areBytes = written-are channel fields payload are;
@@ -126,7 +129,7 @@ module _ (channel : Channel) (fields : Fields) (payload : List ℕ) (are : AreBy
         id = id-range (fields .id .0) .0 id;
         words = omega arith;
         payloadLength = omega arith;
-        cycle = ltb-false 63 (fields .cycle .0) cycle;
+        cycle = ltb-false highestCycle (fields .cycle .0) cycle;
         startup = only-with (fields .startup) (fields .sync) startup;
       }
 
@@ -216,7 +219,7 @@ module _ (channel : ℕ) (bytes : List ℕ) (header : Header) (payload before : 
       first-skip 1 _ (named-is channel (f .on) (f .named) .0)
       ∙ first-skip 9 _ (id-range (header .id .0) .1 (g .id))
       ∙ first-skip 10 _ (good-payload payload (header .words) (g .payloadLength) (g .words))
-      ∙ first-skip 11 _ (le-ltb 63 (header .cycle .0) (g .cycle))
+      ∙ first-skip 11 _ (le-ltb highestCycle (header .cycle .0) (g .cycle))
       ∙ first-skip 7 _ (with-only (header .startup) (header .sync) (g .startup))
 
   pub reserved-refused : header .reserved ≡ true → WriteSays channel (fieldsOf header) payload before before ReservedSet

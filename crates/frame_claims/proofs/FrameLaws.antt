@@ -15,11 +15,12 @@ use Rattle.division.specs.Bits.{bits, number, bytesBits}
 use Rattle.division.proofs.BitsLaws.{length-bits, bits-number}
 use Rattle.division.proofs.BytesLaws.{length-bytes, bytes-append}
 use Rattle.division.proofs.RegisterLaws.{checksum-lt}
-use Rattle.checksum.specs.declared.Channel.{Channel}
+use Rattle.base_types.specs.declared.channel.Channel.{Channel}
 use Rattle.checksum.specs.Checksums.{headerPolynomial, headerStart, headerBits}
 use Rattle.header.specs.declared.Header.{Header}
-use Rattle.header.specs.Layout.{mostWords, wholeHeader, headerChecksumOf, headerIn}
-use Rattle.header.specs.Refusals.{notAnId}
+use Rattle.header.specs.Layout.{mostWords, mostPayload, wholeHeader, headerChecksumOf, headerIn}
+use Rattle.base_types.specs.Slot.{highestId, notAnId}
+use Rattle.base_types.specs.Cycle.{highestCycle}
 use Rattle.frame.specs.Layout.{frameChecksumOf, Frame}
 use Rattle.writing.specs.Refusals.{badPayload}
 use Rattle.frame.specs.Read.{payloadRead}
@@ -42,7 +43,7 @@ length-whole h =
     )
 
 -- a header in range is what its bits say
-pub whole-header : (h : Header) → h .id .0 ≤ 2047 → h .words ≤ 127 → h .checksum ≤ 2047 → h .cycle .0 ≤ 63 → headerIn (wholeHeader h) ≡ h
+pub whole-header : (h : Header) → h .id .0 ≤ highestId → h .words ≤ mostWords → h .checksum < 2 ^ 11 → h .cycle .0 ≤ highestCycle → headerIn (wholeHeader h) ≡ h
 whole-header h id words checksum cycle =
     let e1 : h .id .0 % 2 ^ 11 ≡ h .id .0 = mod-eq-of-lt (omega arith) in
     let e2 : h .words % 2 ^ 7 ≡ h .words = mod-eq-of-lt (omega arith) in
@@ -100,7 +101,7 @@ length-payload bytes h =
     let long : length (take end bytes) ≡ end = length-take-le end bytes (omega arith) in
     length-drop 5 (take end bytes) ∙ omega arith
 
-pub header-checksum-small : (h : Header) → headerChecksumOf h ≤ 2047
+pub header-checksum-small : (h : Header) → headerChecksumOf h < 2 ^ 11
 header-checksum-small h =
     let small : headerChecksumOf h < 2 ^ 11 =
     checksum-lt 11 headerPolynomial headerStart (headerBits (h .sync) (h .startup) (h .id .0) (h .words)) in
@@ -117,20 +118,10 @@ frame-size {channel} {bytes} {header} {payload} f =
     length-append (wholeHeader header) (bytesBits payload ++ t) ∙ ap₂ _+_ (length-whole header) tail in
     omega (arith, length-bytes bytes, ap length (f .layout), whole, f .payloadLength)
 
--- ---- tests in words
-
-pub id-range : (id : ℕ) → (notAnId id ≡ false) ↔ ((1 ≤ id) × (id ≤ 2047))
-id-range id = (
-  λ e.
-      let h = neither (ltb id 1) (ltb 2047 id) e in
-      (ltb-false id 1 (h .0), ltb-false 2047 id (h .1)),
-  λ h. ap₂ _||_ (le-ltb id 1 (h .0)) (le-ltb 2047 id (h .1)),
-)
-
 -- a payload of as many words as a header can say
 pub good-payload : (payload : List ℕ) (words : ℕ) → length payload ≡ 2 * words → words ≤ mostWords → badPayload payload ≡ false
 good-payload payload words long most =
-    ap₂ _||_ (ne-eqb (length payload % 2) 1 (λ e. omega arith)) (le-ltb 254 (length payload) (omega arith))
+    ap₂ _||_ (ne-eqb (length payload % 2) 1 (λ e. omega arith)) (le-ltb mostPayload (length payload) (omega arith))
 
 -- a header is the one that its free fields and its payload give
 pub from-fields : (header : Header) (payload : List ℕ) → length payload ≡ 2 * header .words → header .checksum ≡ headerChecksumOf header

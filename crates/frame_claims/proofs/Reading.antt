@@ -8,17 +8,19 @@ use native.Mathlib.Omega.{arith}
 use borrow.Author.Tests.{ltb-false, eqb-true, eqb-false, not-false, le-ltb, eq-eqb, ne-eqb}
 use lib.Dec.{ltb}
 use lib.ListN.{length, take, drop}
+use Rattle.base_types.specs.Cycle.{highestCycle}
+use Rattle.base_types.specs.Slot.{highestId}
 use Rattle.refusal.specs.Refusal.{first, numbered}
 use Rattle.refusal.proofs.FirstLaws.{first-skip, first-end, not-refused}
 use Rattle.division.specs.Bits.{odd, bits, number, bytesBits, AreBytes}
 use Rattle.division.proofs.BitsLaws.{number-bits, bits-number}
 use Rattle.division.proofs.BytesLaws.{append-apart, length-bytes, bytes-inj, are-bytes-take, are-bytes-drop}
 use Rattle.division.proofs.RegisterLaws.{checksum-lt}
-use Rattle.checksum.specs.declared.Channel.{Channel}
-use Rattle.checksum.specs.Channel.{startOf}
+use Rattle.base_types.specs.declared.channel.Channel.{Channel}
+use Rattle.base_types.specs.Channel.{startOf}
 use Rattle.checksum.specs.Checksums.{framePolynomial, frameDivision, frameChecksum}
 use Rattle.header.specs.declared.Header.{Header}
-use Rattle.header.specs.Layout.{wholeHeader, headerIn}
+use Rattle.header.specs.Layout.{mostWords, longestFrame, wholeHeader, headerIn}
 use Rattle.header.specs.Refusals.{startupWithoutSync}
 use Rattle.header.proofs.HeaderLaws.{field-small}
 use Rattle.frame.specs.Layout.{frameChecksumOf, Frame}
@@ -41,15 +43,15 @@ with-only false sync h = refl
 
 -- ---- what a field can hold
 
-pub id-small : (bytes : List ℕ) → headerRead bytes .id .0 ≤ 2047
+pub id-small : (bytes : List ℕ) → headerRead bytes .id .0 ≤ highestId
 unfolding headerIn
 id-small bytes = let small = field-small 5 11 (bytesBits bytes) in omega arith
 
-pub words-small : (bytes : List ℕ) → headerRead bytes .words ≤ 127
+pub words-small : (bytes : List ℕ) → headerRead bytes .words ≤ mostWords
 unfolding headerIn
 words-small bytes = let small = field-small 16 7 (bytesBits bytes) in omega arith
 
-pub cycle-small : (bytes : List ℕ) → headerRead bytes .cycle .0 ≤ 63
+pub cycle-small : (bytes : List ℕ) → headerRead bytes .cycle .0 ≤ highestCycle
 unfolding headerIn
 cycle-small bytes = let small = field-small 34 6 (bytesBits bytes) in omega arith
 
@@ -135,10 +137,10 @@ module _ {channel : Channel} {bytes : List ℕ} {header : Header} {payload : Lis
   pub frame-accepted : first (refusalsOn channel bytes) ≡ 0
   frame-accepted =
       let even : odd (length bytes) ≡ false = ne-eqb (length bytes % 2) 1 (λ e. omega (arith, size)) in
-      let at-most : ltb 262 (length bytes) ≡ false = le-ltb 262 (length bytes) (omega (arith, size, f .words)) in
+      let at-most : ltb longestFrame (length bytes) ≡ false = le-ltb longestFrame (length bytes) (omega (arith, size, f .words)) in
       let moved : (g : Header → Bool) → g header ≡ false → g (headerRead bytes) ≡ false = λ g e. ap g frame-header ∙ e in
       first-skip 2 _ (le-ltb (length bytes) 8 long)
-      ∙ first-skip 3 _ (ap (λ (b : Bool). b || ltb 262 (length bytes)) even ∙ at-most)
+      ∙ first-skip 3 _ (ap (λ (b : Bool). b || ltb longestFrame (length bytes)) even ∙ at-most)
       ∙ first-skip 4 _ (moved headerChecksumDiffers (ap not (eq-eqb _ _ (f .checksum))))
       ∙ first-skip 5 _ (moved (λ h. wordsNotSize h bytes) (ap not (eq-eqb _ _ (sym size))))
       ∙ first-skip 6 _ (moved idZero (ne-eqb (header .id .0) 0 (λ e. omega (arith, f .id .0))))

@@ -11,10 +11,10 @@ use Rattle.numbers.proofs.Walk.{cases, cases-in}
 use Rattle.refusal.specs.Refusal.{first, numbered}
 use Rattle.refusal.proofs.FirstLaws.{if-refused, not-refused}
 use Rattle.division.specs.Bits.{AreBytes}
-use Rattle.checksum.specs.declared.Channel.{Channel}
-use Rattle.checksum.specs.declared.Channel.the-variants.{A, B}
-use Rattle.checksum.specs.Channel.{channelOf}
-use Rattle.checksum.proofs.ChannelLaws.{named-is, one-channel}
+use Rattle.base_types.specs.declared.channel.Channel.{Channel}
+use Rattle.base_types.specs.declared.channel.Channel.the-variants.{A, B}
+use Rattle.base_types.specs.Channel.{channelOf}
+use Rattle.base_types.proofs.ChannelLaws.{named-is, one-channel}
 use Rattle.header.specs.declared.Header.{Header}
 use Rattle.header.specs.declared.Fields.{Fields}
 use Rattle.frame.specs.declared.Reading.{Reading}

@@ -9,7 +9,7 @@ use Rattle.header.specs.declared.Fields.{Fields}
 use Rattle.frame.specs.declared.Reading.{Reading}
 use Rattle.writing.specs.declared.Writing.{Writing}
 use Rattle.frame.specs.Read as read
-use Rattle.checksum.specs.declared.Channel.{Channel}
+use Rattle.base_types.specs.declared.channel.Channel.{Channel}
 use Rattle.frame.specs.Read.{ReadSays, ReadOnSays, PayloadSays, PayloadLies}
 use Rattle.writing.specs.Write as write
 use Rattle.writing.specs.Write.{WriteSays}

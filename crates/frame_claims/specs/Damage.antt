@@ -10,8 +10,8 @@ use mathlib.Core.Logic.{_↔_}
 use lib.ListN.{length}
 use Rattle.division.specs.Bits.{bytesBits}
 use Rattle.division.specs.Differing.{differing, firstDiffering, lastDiffering, DifferWithin}
-use Rattle.checksum.specs.declared.Channel.{Channel}
-use Rattle.checksum.specs.declared.Channel.the-variants.{A, B}
+use Rattle.base_types.specs.declared.channel.Channel.{Channel}
+use Rattle.base_types.specs.declared.channel.Channel.the-variants.{A, B}
 use Rattle.header.specs.declared.Header.{Header}
 use Rattle.frame.specs.Layout.{Frame}
 use Rattle.frame_claims.specs.Exact.{IsFrame}

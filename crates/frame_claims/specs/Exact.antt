@@ -7,9 +7,9 @@ use mathlib.Core.List.{List, []}
 use mathlib.Core.Logic.{_↔_}
 use lib.ListN.{length, take, drop}
 use Rattle.division.specs.Bits.{AreBytes}
-use Rattle.checksum.specs.declared.Channel.{Channel}
-use Rattle.checksum.specs.declared.Named.the-variants.{Is}
-use Rattle.checksum.specs.Channel.{namedBy}
+use Rattle.base_types.specs.declared.channel.Channel.{Channel}
+use Rattle.base_types.specs.declared.channel.Named.the-variants.{Is}
+use Rattle.base_types.specs.Channel.{namedBy}
 use Rattle.header.specs.declared.Header.{Header}
 use Rattle.header.specs.declared.Fields.{Fields}
 use Rattle.frame.specs.declared.Reading.{Reading}

@@ -1,6 +1,6 @@
 -- What a header is (01, "Frame layout"): which bits its fields make, in the order in which they are sent, and which fields stand in
 -- bits.
-use Prim.Native.Nat.{ℕ, _+_}
+use Prim.Native.Nat.{ℕ, _+_, _*_}
 use mathlib.Core.Bool.{Bool, false}
 use mathlib.Core.List.{List, _∷_, _++_}
 use lib.ListN.{getD, take, drop}
@@ -11,6 +11,14 @@ use Rattle.header.specs.declared.Header.{Header}
 -- "payload length in 2-byte words, 0 to 127".
 abbrev pub mostWords : ℕ
 mostWords = 127
+
+-- The longest payload, in bytes: two to a word.
+abbrev pub mostPayload : ℕ
+mostPayload = 2 * mostWords
+
+-- "A frame has 8 + 2 x words bytes: 8 to 262".
+abbrev pub longestFrame : ℕ
+longestFrame = 8 + mostPayload
 
 -- The table of 01: five indicators of one bit, 11 bits of frame ID, 7 of payload length, 11 of header checksum, 6 of cycle.
 abbrev pub wholeHeader : Header → List Bool

@@ -1,18 +1,14 @@
 // The header of a frame (document 01, "Frame layout"): its fields, the 40 bits that they take, and what they are tested by.
 //
-// For the crates above: `Slot` and `Cycle`, types that keep the two numbers apart, `Header` with its `checksum_due`, `Fields`, of
-// which a header is written, `unpacked`, `packed` and `checksum_of` for the 40 bits as those of a number, and the conditions
-// `is_not_an_id`, `is_too_high` and `startup_without_sync`.
+// For the crates above: `Header` with its `checksum_due`, `Fields`, of which a header is written, `unpacked`, `packed` and `checksum_of`
+// for the 40 bits as those of a number, and the condition `startup_without_sync`.
 ghost use mathlib.Core.Path.{_≡_};
 ghost use Prim.Native.Nat.{_<_, _^_};
 ghost use Rattle.division.specs.Bits.{bits, bit as Bits·bit};
-ghost use Rattle.header.specs.Layout.{mostWords, wholeHeader, headerChecksumOf, headerIn, noHeader};
-ghost use Rattle.header.specs.Refusals.{notAnId, cycleTooHigh, startupWithoutSync};
-
-// A frame ID, which is the number of the slot that the frame is sent in.
-pub struct Slot(pub u16);
-
-pub struct Cycle(pub u8);
+ghost use Rattle.header.specs.Layout.{mostWords, mostPayload, longestFrame, wholeHeader, headerChecksumOf, headerIn, noHeader};
+ghost use Rattle.header.specs.Refusals.{startupWithoutSync};
+use base_types::Cycle;
+use base_types::Slot;
 
 // What a header says: 01's nine fields, in the order in which they are sent.
 pub struct Header {
@@ -44,6 +40,11 @@ impl Header {
     // The highest payload length, in words.
     pub const MOST_WORDS: u8 = 127;
 
+    // The longest payload, in bytes, and the longest frame.
+    pub const MOST_PAYLOAD: usize = 2 * Header::MOST_WORDS as usize;
+
+    pub const LONGEST_FRAME: usize = 8 + Header::MOST_PAYLOAD;
+
     // All zeros, all flags clear: what stands beside a refusal.
     pub const NONE: Header = Header {
         reserved: false,
@@ -64,6 +65,18 @@ impl Header {
         Header::MOST_WORDS
     }
 
+    fn most_payload() -> usize
+        ensures { λ r. ⌜ r ≡ mostPayload ⌝ }
+    {
+        Header::MOST_PAYLOAD
+    }
+
+    fn longest_frame() -> usize
+        ensures { λ r. ⌜ r ≡ longestFrame ⌝ }
+    {
+        Header::LONGEST_FRAME
+    }
+
     fn none() -> Header
         ensures { λ r. ⌜ r ≡ noHeader ⌝ }
     {
@@ -75,27 +88,6 @@ impl Header {
         ensures { λ r. ⌜ r ≡ headerChecksumOf self ⌝ }
     {
         checksum_of(packed(self))
-    }
-}
-
-impl Slot {
-    // Refusal 9.
-    pub fn is_not_an_id(self) -> bool
-        ensures { λ r. ⌜ r ≡ notAnId (self .0) ⌝ }
-    {
-        if self.0 < 1 {
-            return true;
-        }
-        2047 < self.0
-    }
-}
-
-impl Cycle {
-    // Refusal 11.
-    pub fn is_too_high(self) -> bool
-        ensures { λ r. ⌜ r ≡ cycleTooHigh (self .0) ⌝ }
-    {
-        63 < self.0
     }
 }
 

@@ -1,1 +1,3 @@
 pub mod OverLaws
+pub mod NumberLaws
+pub mod PuttingLaws

@@ -5,8 +5,8 @@ use mathlib.Core.Bool.{true, not, _||_}
 use mathlib.Core.List.{List, [], _∷_}
 use lib.ListN.{getD}
 use Rattle.numbers.proofs.Truth.{both-true}
-use Rattle.header.specs.declared.Slot.{Slot}
-use Rattle.header.specs.Refusals.{notAnId}
+use Rattle.base_types.specs.declared.id.Slot.{Slot}
+use Rattle.base_types.specs.Slot.{notAnId}
 use Rattle.sync_list.specs.declared.row.Row.{Row}
 use Rattle.sync_list.specs.Rows.{blank, isMeasured}
 use Rattle.sync_list.specs.Lists.{idOf, idsOf, placeAmong, rowIn}

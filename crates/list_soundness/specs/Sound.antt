@@ -4,8 +4,8 @@ use Prim.Native.Nat.{ℕ}
 use mathlib.Core.Bool.{Bool, true, not, _&&_, _||_}
 use mathlib.Core.List.{List, [], _∷_}
 use lib.Dec.{leb}
-use Rattle.header.specs.Refusals.{notAnId}
-use Rattle.correction.specs.Microtick.{isDeviation}
+use Rattle.base_types.specs.Slot.{notAnId}
+use Rattle.base_types.specs.Microtick.{isDeviation}
 use Rattle.sync_list.specs.declared.row.Measured.{Measured}
 use Rattle.sync_list.specs.declared.row.Measured.the-variants.{Nothing, Is}
 use Rattle.sync_list.specs.declared.row.Row.{Row}

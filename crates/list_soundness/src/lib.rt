@@ -9,8 +9,8 @@ use sync_list::Measured;
 use sync_list::Row;
 use sync_list::SyncList;
 
-// Whether it holds at most the limit of rows, each one right, and no ID twice. IDs that are measured in their order rise, and one above
-// all earlier ones is not among them: only another is looked for.
+// Whether it holds at most the limit of rows, each one right, and no ID twice. An ID above all earlier ones is not among them, so only
+// another is looked for; a list whose IDs rise needs no search.
 pub fn is_sound(list: SyncList, limit: u32) -> bool
     ensures { λ r. ⌜ r ≡ listSound limit list ⌝ }
 {

@@ -13,9 +13,9 @@ use Rattle.numbers.proofs.Truth.{both-true}
 use Rattle.midpoint.proofs.RangeLaws.{Near, Within, none, more, half-within}
 use Rattle.correction.specs.declared.value.Value.{Value}
 use Rattle.correction.specs.declared.value.Value.the-variants as value
-use Rattle.correction.specs.Microtick.{lowestDeviation, highestDeviation, isDeviation, held, whole}
+use Rattle.base_types.specs.Microtick.{lowestDeviation, highestDeviation, isDeviation, held, whole}
 use Rattle.correction.specs.Values.{differenceBy, joined, rateValue, rateValueBy}
-use Rattle.correction.proofs.HeldLaws.{held-fits}
+use Rattle.base_types.proofs.HeldLaws.{held-fits}
 use Rattle.sync_list.specs.declared.row.Measured.{Measured}
 use Rattle.sync_list.specs.declared.row.Measured.the-variants.{Nothing, Is}
 use Rattle.sync_list.specs.declared.row.Row.{Row}

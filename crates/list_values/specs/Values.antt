@@ -8,7 +8,7 @@ use Rattle.midpoint.specs.Midpoint.{mostValues}
 use Rattle.correction.specs.declared.term.Values.{Values}
 use Rattle.correction.specs.declared.value.Value.{Value}
 use Rattle.correction.specs.declared.value.Value.the-variants.{Absent, Is}
-use Rattle.correction.specs.Microtick.{whole}
+use Rattle.base_types.specs.Microtick.{whole}
 use Rattle.correction.specs.Values.{offsetValue, rateValueBy}
 use Rattle.sync_list.specs.declared.row.Row.{Row}
 use Rattle.sync_list.specs.Rows.{deviationsOf}

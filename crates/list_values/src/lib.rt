@@ -6,7 +6,7 @@ ghost use mathlib.Core.List.{[], _++_};
 ghost use Prim.Native.Nat.{suc, _≤_, _<_};
 ghost use lib.ListN.{length, take};
 ghost use Rattle.midpoint.specs.Midpoint.{mostValues};
-ghost use Rattle.correction.specs.Microtick.{held};
+ghost use Rattle.base_types.specs.Microtick.{held};
 ghost use Rattle.correction.specs.Terms.{valuesIn};
 ghost use Rattle.sync_list.specs.Lists.{listed};
 ghost use Rattle.list_values.specs.Values.{before, offsetValues, rateValuesBy, inArray, ZerosBehind};
@@ -18,8 +18,8 @@ use sync_list::SyncList;
 // An array in which no number is laid yet.
 const NO_NUMBERS: [i32; midpoint::MOST] = [0; midpoint::MOST];
 
-// The offset value of each ID, and zeros behind them. (The second promise follows from the first, and is what a term goes by. So
-// it is with the rate values.)
+// The offset value of each ID, and zeros behind them. (The second promise follows from the first, and is the one that a
+// term cites. The same holds of the rate values.)
 pub fn offset_values(list: SyncList) -> Values
     ensures { λ r. ⌜ r ≡ inArray (offsetValues (listed list)) ⌝ }
     ensures { λ r. ⌜ valuesIn r ≡ offsetValues (listed list) ⌝ }
@@ -65,8 +65,8 @@ pub fn rate_values(odd: SyncList, even: SyncList) -> Values
     Values { numbers, count }
 }
 
-// Lays a value behind the first `count` numbers, where it is one, and answers how many there are then. (The proof of a function is
-// not told how long an array is that is lent to it, so the length is required and ensured.)
+// Lays a value behind the first `count` numbers, where it is one, and answers how many there are then. (A proof is not
+// told the length of an array that is lent to its function, so the length is required and ensured.)
 fn lay(numbers: &mut [i32; midpoint::MOST], count: usize, value: Value) -> usize
     requires { ⌜ (count < mostValues) × (length (now numbers) ≡ mostValues) × ZerosBehind count (now numbers) ⌝ }
     ensures { λ r. ⌜ take r (now (numbers .exit)) ≡ take count (now (numbers .entry)) ++ before value [] ⌝ }

@@ -11,11 +11,11 @@ use Rattle.numbers.proofs.Truth.{both-true, true-both}
 use Rattle.numbers.proofs.Walk.{cases}
 use Rattle.midpoint.specs.Order.{Permuted}
 use Rattle.midpoint.proofs.OrderLaws.{permuted-refl}
-use Rattle.checksum.specs.declared.Channel.{Channel}
-use Rattle.checksum.specs.declared.Channel.the-variants.{A, B}
-use Rattle.header.specs.declared.Slot.{Slot}
-use Rattle.header.specs.Refusals.{notAnId}
-use Rattle.correction.specs.Microtick.{isDeviation}
+use Rattle.base_types.specs.declared.channel.Channel.{Channel}
+use Rattle.base_types.specs.declared.channel.Channel.the-variants.{A, B}
+use Rattle.base_types.specs.declared.id.Slot.{Slot}
+use Rattle.base_types.specs.Slot.{notAnId}
+use Rattle.base_types.specs.Microtick.{isDeviation}
 use Rattle.sync_list.specs.declared.row.Measured.{Measured}
 use Rattle.sync_list.specs.declared.row.Measured.the-variants.{Nothing, Is}
 use Rattle.sync_list.specs.declared.row.Measurement.{Measurement}
@@ -55,7 +55,7 @@ blank-on B id = refl
 
 module _ (m : Measurement) where
   abbrev one : ℕ → Channel → Taken
-  one id channel = record { id = id; channel = channel; deviation = m .deviation .0 }
+  one id channel = record { id = id; channel = channel; measurement = m }
 
   -- in the first row
   row-more : (channel : Channel) (row : Row) (rows : List Row) → isMeasured (on channel row) ≡ false
@@ -172,7 +172,7 @@ module _ (l : SyncList) (id : Slot) (channel : Channel) (m : Measurement) (long 
         (λ new. rw (listed-new new) (sound-end (listed l) added s e))
 
   pub recorded-permuted : isMeasuredOn id channel l ≡ false → placeOf id l < rowCount
-      → Permuted (standsFor (listed (recorded id channel m l))) (record { id = id .0; channel = channel; deviation = m .deviation .0 } ∷ standsFor (listed l))
+      → Permuted (standsFor (listed (recorded id channel m l))) (record { id = id .0; channel = channel; measurement = m } ∷ standsFor (listed l))
   recorded-permuted e room =
       cases (isAmong (id .0) (idsOf (listed l)))
       (λ known.

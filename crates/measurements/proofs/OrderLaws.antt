@@ -8,11 +8,11 @@ use lib.IntN.{ℤ, pos, _+ℤ_}
 use Rattle.midpoint.specs.Midpoint.{midpoint}
 use Rattle.midpoint.specs.Order.{Permuted}
 use Rattle.midpoint.proofs.OrderLaws.{midpoint-permuted}
-use Rattle.checksum.specs.declared.Channel.{Channel}
-use Rattle.checksum.specs.declared.Channel.the-variants.{A, B}
+use Rattle.base_types.specs.declared.channel.Channel.{Channel}
+use Rattle.base_types.specs.declared.channel.Channel.the-variants.{A, B}
 use Rattle.correction.specs.declared.value.Value.{Value}
 use Rattle.correction.specs.declared.value.Value.the-variants.{Absent, Is}
-use Rattle.correction.specs.Microtick.{whole}
+use Rattle.base_types.specs.Microtick.{whole}
 use Rattle.correction.specs.Values.{rateValue}
 use Rattle.correction.specs.Terms.{damped, limited, offsetTerm, rateTerm, withOwn}
 use Rattle.list_values.specs.Values.{before, present}

@@ -6,7 +6,7 @@ use Prim.Native.Nat.{ℕ}
 use lib.Dec.{eqb}
 use borrow.Author.Tests.{eqb-true, eq-eqb}
 use Rattle.numbers.proofs.Walk.{cases}
-use Rattle.header.specs.declared.Slot.{Slot}
+use Rattle.base_types.specs.declared.id.Slot.{Slot}
 use Rattle.sync_list.specs.declared.row.Row.{Row}
 use Rattle.sync_list.specs.Lists.{idOf, idsOf, isAmong, noneTwice, rowIn}
 use Rattle.sync_list.proofs.PlaceLaws.{place-here, place-later}

@@ -8,13 +8,14 @@ use lib.IntN.{ℤ}
 use borrow.Author.Tests.{eqb-true, eq-eqb}
 use Rattle.numbers.proofs.Truth.{both-true}
 use Rattle.numbers.proofs.Walk.{cases}
-use Rattle.checksum.specs.declared.Channel.{Channel}
-use Rattle.checksum.specs.declared.Channel.the-variants.{A, B}
-use Rattle.header.specs.declared.Slot.{Slot}
-use Rattle.header.specs.Refusals.{notAnId}
+use Rattle.base_types.specs.declared.channel.Channel.{Channel}
+use Rattle.base_types.specs.declared.channel.Channel.the-variants.{A, B}
+use Rattle.base_types.specs.declared.id.Slot.{Slot}
+use Rattle.base_types.specs.Slot.{notAnId}
 use Rattle.correction.specs.declared.value.Value.{Value}
 use Rattle.correction.specs.declared.value.Value.the-variants as value
 use Rattle.correction.specs.Values.{smaller, offsetValue, rateValue}
+use Rattle.sync_list.specs.declared.row.Measurement.{Measurement}
 use Rattle.sync_list.specs.declared.row.Measured.{Measured}
 use Rattle.sync_list.specs.declared.row.Measured.the-variants.{Nothing, Is}
 use Rattle.sync_list.specs.declared.row.Row.{Row}
@@ -58,23 +59,23 @@ rows-ids (row ∷ rows) s n =
 
 -- what was measured on a channel before others, where it is meant, and where it is not
 module _ (meant : Taken → Bool) (id : ℕ) (channel : Channel) where
-  first-meant : ((d : ℤ) → meant (record { id = id; channel = channel; deviation = d }) ≡ true) → (x : Measured) (ms : List Taken)
+  first-meant : ((m : Measurement) → meant (record { id = id; channel = channel; measurement = m }) ≡ true) → (x : Measured) (ms : List Taken)
       → smallest (deviationsIf meant (taken id channel x ++ ms)) ≡ smaller (valueOf x) (smallest (deviationsIf meant ms))
   unfolding smallest deviationsIf
   first-meant e Nothing ms = refl
-  first-meant e (Is m) ms = rw (e (m .deviation .0))
+  first-meant e (Is m) ms = rw (e m)
 
-  first-other : ((d : ℤ) → meant (record { id = id; channel = channel; deviation = d }) ≡ false) → (x : Measured) (ms : List Taken)
+  first-other : ((m : Measurement) → meant (record { id = id; channel = channel; measurement = m }) ≡ false) → (x : Measured) (ms : List Taken)
       → deviationsIf meant (taken id channel x ++ ms) ≡ deviationsIf meant ms
   unfolding deviationsIf
   first-other e Nothing ms = refl
-  first-other e (Is m) ms = rw (e (m .deviation .0))
+  first-other e (Is m) ms = rw (e m)
 
 front-same : (meant : Taken → Bool) (l ms ns : List Taken) → deviationsIf meant ms ≡ deviationsIf meant ns
     → deviationsIf meant (l ++ ms) ≡ deviationsIf meant (l ++ ns)
 unfolding deviationsIf
 front-same meant [] ms ns e = e
-front-same meant (m ∷ l) ms ns e = ap (λ (ds : List ℤ). cond (meant m) (m .deviation ∷ ds) ds) (front-same meant l ms ns e)
+front-same meant (m ∷ l) ms ns e = ap (λ (ds : List ℤ). cond (meant m) (m .measurement .deviation .0 ∷ ds) ds) (front-same meant l ms ns e)
 
 -- all that was measured of an ID
 abbrev measuredOf : ℕ → Row → List Taken → List Taken
@@ -86,8 +87,8 @@ module _ (id : Slot) (meant : Taken → Bool) (own : (m : Taken) → eqb (m .id)
       → deviationsIf meant (standsFor (row ∷ rows)) ≡ deviationsIf meant (standsFor rows)
   unfolding standsFor
   other-row row rows e =
-      first-other meant (idOf row) A (λ d. own _ e) (row .«on_a») (taken (idOf row) B (row .«on_b») ++ standsFor rows)
-      ∙ first-other meant (idOf row) B (λ d. own _ e) (row .«on_b») (standsFor rows)
+      first-other meant (idOf row) A (λ m. own _ e) (row .«on_a») (taken (idOf row) B (row .«on_b») ++ standsFor rows)
+      ∙ first-other meant (idOf row) B (λ m. own _ e) (row .«on_b») (standsFor rows)
 
   other-rows : (rows : List Row) → isAmong (id .0) (idsOf rows) ≡ false → deviationsIf meant (standsFor rows) ≡ []
   unfolding standsFor deviationsIf
@@ -133,8 +134,8 @@ module _ (rows : List Row) (n : noneTwice (idsOf rows) ≡ true) (id : Slot) whe
       let row = rowIn id rows in
       let meant : Taken → Bool = λ m. eqb (m .id) (id .0) in
       ap smallest (of-row id meant (λ m e. e) rows n)
-      ∙ first-meant meant (id .0) A (λ d. same-id) (row .«on_a») (taken (id .0) B (row .«on_b») ++ [])
-      ∙ ap (smaller (valueOf (row .«on_a»))) (first-meant meant (id .0) B (λ d. same-id) (row .«on_b») [] ∙ none-smallest meant (valueOf (row .«on_b»)))
+      ∙ first-meant meant (id .0) A (λ m. same-id) (row .«on_a») (taken (id .0) B (row .«on_b») ++ [])
+      ∙ ap (smaller (valueOf (row .«on_a»))) (first-meant meant (id .0) B (λ m. same-id) (row .«on_b») [] ∙ none-smallest meant (valueOf (row .«on_b»)))
 
   abbrev meantOn : Channel → Taken → Bool
   meantOn channel m = eqb (m .id) (id .0) && sameChannel (m .channel) channel
@@ -149,13 +150,13 @@ module _ (rows : List Row) (n : noneTwice (idsOf rows) ≡ true) (id : Slot) whe
       let other : eqb (id .0) (id .0) && false ≡ false = and-false (eqb (id .0) (id .0)) in
       let a =
       row-on A
-      ∙ first-meant (meantOn A) (id .0) A (λ d. same) (row .«on_a») (taken (id .0) B (row .«on_b») ++ [])
-      ∙ ap (smaller (valueOf (row .«on_a»))) (ap smallest (first-other (meantOn A) (id .0) B (λ d. other) (row .«on_b») []))
+      ∙ first-meant (meantOn A) (id .0) A (λ m. same) (row .«on_a») (taken (id .0) B (row .«on_b») ++ [])
+      ∙ ap (smaller (valueOf (row .«on_a»))) (ap smallest (first-other (meantOn A) (id .0) B (λ m. other) (row .«on_b») []))
       ∙ none-smallest (meantOn A) (valueOf (row .«on_a»)) in
       let b =
       row-on B
-      ∙ ap smallest (first-other (meantOn B) (id .0) A (λ d. other) (row .«on_a») (taken (id .0) B (row .«on_b») ++ []))
-      ∙ first-meant (meantOn B) (id .0) B (λ d. same) (row .«on_b») []
+      ∙ ap smallest (first-other (meantOn B) (id .0) A (λ m. other) (row .«on_a») (taken (id .0) B (row .«on_b») ++ []))
+      ∙ first-meant (meantOn B) (id .0) B (λ m. same) (row .«on_b») []
       ∙ none-smallest (meantOn B) (valueOf (row .«on_b»)) in
       λ i. record { «on_a» = a i; «on_b» = b i }
 

@@ -43,5 +43,5 @@ smallest-permuted = fold-permuted smallest (λ x v. smaller (is x) v) (λ x xs. 
 pub deviations-permuted : (meant : Taken → Bool) {ms ns : List Taken} → Permuted ms ns → Permuted (deviationsIf meant ms) (deviationsIf meant ns)
 unfolding deviationsIf
 deviations-permuted meant p =
-    rule-permuted (deviationsIf meant) (λ m. cond (meant m) (m .deviation ∷ []) [])
+    rule-permuted (deviationsIf meant) (λ m. cond (meant m) (m .measurement .deviation .0 ∷ []) [])
     (λ m ms. cases (meant m) (λ e. rw e) (λ e. rw e)) p

@@ -3,26 +3,26 @@ use Prim.Native.Nat.{ℕ}
 use mathlib.Core.Bool.{Bool, true, false, cond}
 use mathlib.Core.List.{List, [], _∷_, _++_, map}
 use lib.Dec.{eqb}
-use lib.IntN.{ℤ}
-use Rattle.checksum.specs.declared.Channel.{Channel}
-use Rattle.checksum.specs.declared.Channel.the-variants.{A, B}
+use Rattle.base_types.specs.declared.channel.Channel.{Channel}
+use Rattle.base_types.specs.declared.channel.Channel.the-variants.{A, B}
+use Rattle.sync_list.specs.declared.row.Measurement.{Measurement}
 use Rattle.sync_list.specs.declared.row.Measured.{Measured}
 use Rattle.sync_list.specs.declared.row.Measured.the-variants.{Nothing, Is}
 use Rattle.sync_list.specs.declared.row.Row.{Row}
 use Rattle.sync_list.specs.Lists.{idOf}
 
--- A measurement: the ID and the channel of a frame, and its deviation.
+-- A measurement as 01 lists it: the ID and the channel of a frame, and what was measured of it.
 pub record Taken : Type 0 where
   pub id : ℕ
   pub channel : Channel
-  pub deviation : ℤ
+  pub measurement : Measurement
 
 -- ---- the measurements that rows stand for
 
 -- What a row has of its ID on one channel, as a list of one measurement or none.
 abbrev pub taken : ℕ → Channel → Measured → List Taken
 taken id channel Nothing = []
-taken id channel (Is m) = record { id = id; channel = channel; deviation = m .deviation .0 } ∷ []
+taken id channel (Is m) = record { id = id; channel = channel; measurement = m } ∷ []
 
 unfoldable pub standsFor : List Row → List Taken
 standsFor [] = []

@@ -4,8 +4,8 @@ use mathlib.Core.Bool.{Bool, _&&_, cond}
 use mathlib.Core.List.{List, [], _∷_, map}
 use lib.Dec.{eqb}
 use lib.IntN.{ℤ}
-use Rattle.checksum.specs.declared.Channel.{Channel}
-use Rattle.checksum.specs.declared.Channel.the-variants.{A, B}
+use Rattle.base_types.specs.declared.channel.Channel.{Channel}
+use Rattle.base_types.specs.declared.channel.Channel.the-variants.{A, B}
 use Rattle.correction.specs.declared.value.Value.{Value}
 use Rattle.correction.specs.declared.value.Value.the-variants.{Absent}
 use Rattle.correction.specs.declared.value.Deviations.{Deviations}
@@ -16,7 +16,7 @@ use Rattle.measurements.specs.Measurements.{Taken, differentIds, sameCha
 -- The deviations of the measurements that are meant.
 unfoldable pub deviationsIf : (Taken → Bool) → List Taken → List ℤ
 deviationsIf meant [] = []
-deviationsIf meant (m ∷ ms) = cond (meant m) (m .deviation ∷ deviationsIf meant ms) (deviationsIf meant ms)
+deviationsIf meant (m ∷ ms) = cond (meant m) (m .measurement .deviation .0 ∷ deviationsIf meant ms) (deviationsIf meant ms)
 
 -- The smallest of some numbers, by sign; none where there is none.
 unfoldable pub smallest : List ℤ → Value

@@ -1,25 +1,26 @@
--- The deviation that a sound clock state and accepted times make is one of 01's range, and fits its type: it is held whole.
-use mathlib.Core.Path.{_≡_}
+-- The deviation that a sound clock state and accepted times make is one of 01's range, and fits its type: it is held whole, and with it
+-- the measurement.
+use mathlib.Core.Path.{_≡_, ap}
 use mathlib.Core.Bool.{true, false}
 use Prim.Native.Nat.{_≤_}
 use native.Mathlib.Omega.{arith}
 use borrow.Author.Tests.{ltb-false}
 use lib.Dec.{lit<}
-use lib.IntN.{pos, _-ℤ_}
+use lib.IntN.{ℤ, pos, _-ℤ_}
 use lib.Signed.{leZ}
 use Rattle.numbers.proofs.Signed.{sub-sums, le-sums, sums-le, sfits-by}
 use Rattle.numbers.proofs.Truth.{both-true, true-both}
-use Rattle.checksum.specs.declared.Channel.{Channel}
-use Rattle.checksum.specs.declared.Channel.the-variants.{A, B}
+use Rattle.base_types.specs.declared.channel.Channel.{Channel}
+use Rattle.base_types.specs.declared.channel.Channel.the-variants.{A, B}
 use Rattle.settings.specs.declared.Settings.{Settings}
 use Rattle.settings.specs.Sheet.{outOfRange, decodingCorrection}
 use Rattle.slot.specs.declared.status.Status.{Status}
-use Rattle.correction.specs.declared.microtick.Microtick.{Microtick}
-use Rattle.correction.specs.Microtick.{timeLimit, aboveTimeLimit, lowestDeviation, highestDeviation, isDeviation, held}
-use Rattle.correction.proofs.HeldLaws.{held-fits}
+use Rattle.base_types.specs.declared.microtick.Microtick.{Microtick}
+use Rattle.base_types.specs.Microtick.{timeLimit, aboveTimeLimit, lowestDeviation, highestDeviation, isDeviation, held}
+use Rattle.base_types.proofs.HeldLaws.{held-fits}
 use Rattle.clock.specs.declared.state.Clock.{Clock}
 use Rattle.clock.proofs.SoundLaws.{highest, at-most}
-use Rattle.measuring.specs.Measuring.{delayOn, deviationBy}
+use Rattle.measuring.specs.Measuring.{delayOn, deviationBy, measurementWith, measurementBy}
 
 delay-small : (channel : Channel) (s : Settings) → outOfRange s ≡ false → delayOn channel s ≤ highest 2
 delay-small A s e = at-most s e 2 (lit< tt)
@@ -43,10 +44,13 @@ module _ (clock : Clock) (status : Status) (observed actionPoint : Microtick) (s
       (sums-le lowestDeviation (y -ℤ pos (actionPoint .0)) (omega arith))
       (sums-le (y -ℤ pos (actionPoint .0)) highestDeviation (omega arith))
 
-  pub deviation-held : held (deviationBy clock status observed actionPoint) ≡ deviationBy clock status observed actionPoint
+  deviation-held : held (deviationBy clock status observed actionPoint) ≡ deviationBy clock status observed actionPoint
   deviation-held =
       let z = deviationBy clock status observed actionPoint in
       let h = both-true (leZ lowestDeviation z) (leZ z highestDeviation) deviation-ranged in
       let low = le-sums lowestDeviation z (h .0) in
       let high = le-sums z highestDeviation (h .1) in
       held-fits z (sfits-by (omega arith) (omega arith))
+
+  pub measurement-held : measurementWith held (clock .settings) status observed actionPoint ≡ measurementBy clock status observed actionPoint
+  measurement-held = ap (λ (z : ℤ). measurementWith (λ (d : ℤ). z) (clock .settings) status observed actionPoint) deviation-held

@@ -6,17 +6,18 @@ use mathlib.Core.List.{List, [], _∷_}
 use lib.Dec.{eqb}
 use lib.IntN.{ℤ, pos}
 use Rattle.refusal.specs.Refusal.{Line, _when_, first, ifAccepted}
-use Rattle.checksum.specs.declared.Channel.{Channel}
-use Rattle.checksum.specs.declared.Channel.the-variants.{A, B}
+use Rattle.base_types.specs.declared.channel.Channel.{Channel}
+use Rattle.base_types.specs.declared.channel.Channel.the-variants.{A, B}
 use Rattle.header.specs.declared.Header.{Header}
 use Rattle.settings.specs.declared.Settings.{Settings}
 use Rattle.settings.specs.Sheet.{decodingCorrection, delayA, delayB, syncIdLimit}
 use Rattle.slot.specs.declared.status.Status.{Status}
 use Rattle.slot.specs.Judging.{placeOf, isStatic, isFrame, headerKept}
 use Rattle.slot.specs.Sound as slot
-use Rattle.correction.specs.declared.microtick.Microtick.{Microtick}
-use Rattle.correction.specs.Microtick.{aboveTimeLimit}
+use Rattle.base_types.specs.declared.microtick.Microtick.{Microtick}
+use Rattle.base_types.specs.Microtick.{aboveTimeLimit, whole}
 use Rattle.correction.specs.Deviation.{deviation}
+use Rattle.sync_list.specs.declared.row.Measurement.{Measurement}
 use Rattle.sync_list.specs.Lists.{isMeasuredOn, isFullFor, recorded}
 use Rattle.clock.specs.declared.state.Clock.{Clock}
 use Rattle.measuring.specs.declared.Measuring.{Measuring}
@@ -48,17 +49,30 @@ measuredAlready clock status = isMeasuredOn (frameOf status .id) (status .channe
 abbrev pub listFull : Clock → Status → Bool
 listFull clock status = isFullFor (syncIdLimit (clock .settings)) (frameOf status .id) (listOf (currentCycle clock) clock)
 
--- ---- the deviation
+-- ---- the deviation, and the measurement that is listed
 
 -- "delay of that channel".
 abbrev pub delayOn : Channel → Settings → ℕ
 delayOn A settings = delayA settings
 delayOn B settings = delayB settings
 
--- By the clock state's settings, "whatever settings the status was opened with"; "the channel is the status's".
+-- The deviation, by some settings; "the channel is the status's".
+abbrev pub deviationWith : Settings → Status → Microtick → Microtick → ℤ
+deviationWith settings status observed actionPoint =
+    deviation (observed .0) (decodingCorrection settings) (delayOn (status .channel) settings) (actionPoint .0)
+
+-- The measurement that is listed: here, and nowhere else, it is made. `hold` says how its deviation is held: whole, or as its type
+-- holds it.
+abbrev pub measurementWith : (ℤ → ℤ) → Settings → Status → Microtick → Microtick → Measurement
+measurementWith hold settings status observed actionPoint =
+    record { deviation = record { 0 = hold (deviationWith settings status observed actionPoint) } }
+
+-- Both by the clock state's settings, "whatever settings the status was opened with".
 abbrev pub deviationBy : Clock → Status → Microtick → Microtick → ℤ
-deviationBy clock status observed actionPoint =
-    deviation (observed .0) (decodingCorrection (clock .settings)) (delayOn (status .channel) (clock .settings)) (actionPoint .0)
+deviationBy clock = deviationWith (clock .settings)
+
+abbrev pub measurementBy : Clock → Status → Microtick → Microtick → Measurement
+measurementBy clock = measurementWith whole (clock .settings)
 
 -- ---- the statement
 
@@ -91,11 +105,9 @@ told measuring.MeasuredAlready = record { number = 16; deviation = pos 0 }
 told measuring.ListFull = record { number = 15; deviation = pos 0 }
 
 -- The clock with the measurement in the open cycle's list.
-abbrev pub measuredOn : Clock → Status → ℤ → Clock
-measuredOn clock status d =
-    withList (currentCycle clock)
-    (recorded (frameOf status .id) (status .channel) (record { deviation = record { 0 = d } }) (listOf (currentCycle clock) clock))
-    clock
+abbrev pub measuredOn : Clock → Status → Measurement → Clock
+measuredOn clock status m =
+    withList (currentCycle clock) (recorded (frameOf status .id) (status .channel) m (listOf (currentCycle clock) clock)) clock
 
 -- The answer's number is the refusal, and its deviation 01's. The clock state has the measurement, or, with a refusal, is the one
 -- handed in.
@@ -107,4 +119,4 @@ pub record MeasureSays (clock : Clock) (status : Status) (observed actionPoint :
       }
   pub leaves : r .clock
       ≡ ifAccepted (first (measureRefusals clock status observed actionPoint))
-      (measuredOn clock status (deviationBy clock status observed actionPoint)) clock
+      (measuredOn clock status (measurementBy clock status observed actionPoint)) clock

@@ -2,12 +2,12 @@
 //
 // Entry: `measure` on a clock state, a slot status and two times. It takes whatever comes and gives an answer and a clock state.
 ghost use mathlib.Core.Path.{_≡_};
-ghost use Rattle.correction.specs.Microtick.{held};
-ghost use Rattle.measuring.specs.Measuring.{told, frameOf, noSyncFrame, otherCycle, measuredAlready, listFull, delayOn, deviationBy, measuredOn, MeasureSays};
-use checksum::Channel;
+ghost use Rattle.base_types.specs.Microtick.{held};
+ghost use Rattle.measuring.specs.Measuring.{told, frameOf, noSyncFrame, otherCycle, measuredAlready, listFull, delayOn, deviationBy, measurementWith, measuredOn, MeasureSays};
+use base_types::Channel;
+use base_types::Microtick;
+use base_types::SignedMicrotick;
 use clock::Clock;
-use correction::Microtick;
-use correction::SignedMicrotick;
 use header::Header;
 use settings::Settings;
 use slot::Status;
@@ -100,10 +100,11 @@ pub fn measure(
     if list_full(clock, status) {
         return refused(Measuring::ListFull, clock);
     }
-    let deviation = deviation_by(clock, status, observed, action_point);
+    let measurement = measurement_by(clock, status, observed, action_point);
+    let deviation = measurement.deviation;
     FrameMeasured {
         answer: Measuring::Taken(deviation),
-        clock: measured_on(clock, status, deviation),
+        clock: measured_on(clock, status, measurement),
     }
 }
 
@@ -188,6 +189,20 @@ fn deviation_by(
     )
 }
 
+// The measurement that is listed, by the same.
+fn measurement_by(
+    clock: Clock,
+    status: Status,
+    observed: Microtick,
+    action_point: Microtick,
+) -> Measurement
+    ensures { λ r. ⌜ r ≡ measurementWith held (clock .settings) status observed «action_point» ⌝ }
+{
+    Measurement {
+        deviation: deviation_by(clock, status, observed, action_point),
+    }
+}
+
 fn delay_on(channel: Channel, settings: Settings) -> u32
     ensures { λ r. ⌜ r ≡ delayOn channel settings ⌝ }
 {
@@ -198,13 +213,13 @@ fn delay_on(channel: Channel, settings: Settings) -> u32
 }
 
 // The state with the measurement in the open cycle's list.
-fn measured_on(clock: Clock, status: Status, deviation: SignedMicrotick) -> Clock
-    ensures { λ r. ⌜ r ≡ measuredOn clock status (deviation .0) ⌝ }
+fn measured_on(clock: Clock, status: Status, measurement: Measurement) -> Clock
+    ensures { λ r. ⌜ r ≡ measuredOn clock status measurement ⌝ }
 {
     let frame = frame_of(status);
     let channel = status.channel;
     let cycle = clock.current_cycle();
     let list = clock.list_of(cycle);
-    let next = list.with(frame.id, channel, Measurement { deviation });
+    let next = list.with(frame.id, channel, measurement);
     clock.with_list(cycle, next)
 }

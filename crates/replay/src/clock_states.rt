@@ -5,10 +5,10 @@ use crate::line;
 use crate::lists;
 use crate::script;
 use crate::sheet;
+use base_types::Cycle;
+use base_types::SignedMicrotick;
 use clock::Clock;
 use clock::CycleOrNone;
-use correction::SignedMicrotick;
-use header::Cycle;
 
 // The places of an item, behind the sheet. A cycle stands behind each of the two switches.
 const OPEN: usize = sheet::SIZE;
@@ -59,7 +59,7 @@ pub fn show(clock: Clock) {
     let at = sheet::put(&mut line, at, clock.settings);
     let at = put_cycle(&mut line, at, opened);
     let at = put_cycle(&mut line, at, last_closed);
-    let at = line::signed(&mut line, at, rate.0);
+    let at = line::signed(&mut line, at, rate);
     let at = line::put(&mut line, at, b" EVEN");
     let at = lists::put(&mut line, at, clock.even);
     let at = line::put(&mut line, at, b" ODD");

@@ -6,14 +6,32 @@ use crate::item::Item;
 use crate::line;
 use crate::script;
 use crate::sheet;
+use base_types::Cycle;
+use base_types::Microtick;
 use clock::Clock;
 use clock::CycleOpening;
 use clock::Loading;
 use closing::Closing;
-use correction::Microtick;
-use header::Cycle;
 use measuring::Measuring;
 use slot::Status;
+
+// The places of an item of `M` and of `C`. An item of `O` is its cycle alone.
+const CYCLE: usize = 0;
+
+const OBSERVED: usize = 0;
+
+const ACTION_POINT: usize = OBSERVED + 4;
+
+const OFFSET_CONTROL: usize = 0;
+
+const RATE_CONTROL: usize = OFFSET_CONTROL + 1;
+
+// How many bytes they have.
+pub const OPEN_SIZE: usize = CYCLE + 1;
+
+pub const MEASURE_SIZE: usize = ACTION_POINT + 4;
+
+pub const CLOSE_SIZE: usize = RATE_CONTROL + 1;
 
 // Plays the command on the clock that has this letter; any other leaves the clock state as it is.
 pub fn play(letter: u8, item: Item, clock: Clock, status: Status) -> Clock {
@@ -43,7 +61,7 @@ fn answer_loading(answer: Loading) {
 
 // `O`: cycle.
 fn open_cycle(item: Item, clock: Clock) -> Clock {
-    let opened = clock::open_cycle(clock, Cycle(item[0]));
+    let opened = clock::open_cycle(clock, Cycle(item[CYCLE]));
     let answer = opened.answer;
     answer_opening(answer);
     opened.clock
@@ -57,8 +75,8 @@ fn answer_opening(answer: CycleOpening) {
 
 // `M`: observed time, action point. The frame is that of the status that is held.
 fn measure(item: Item, clock: Clock, status: Status) -> Clock {
-    let observed = Microtick(item::long(item, 0));
-    let action_point = Microtick(item::long(item, 4));
+    let observed = Microtick(item::long(item, OBSERVED));
+    let action_point = Microtick(item::long(item, ACTION_POINT));
     let measured = measuring::measure(clock, status, observed, action_point);
     let answer = measured.answer;
     answer_measuring(answer);
@@ -71,14 +89,14 @@ fn answer_measuring(answer: Measuring) {
     let mut line = [0u8; line::ROOM];
     let at = line::put(&mut line, 0, b"measure");
     let at = line::decimal(&mut line, at, answer.number() as u64);
-    let at = line::signed(&mut line, at, deviation.0);
+    let at = line::signed(&mut line, at, deviation);
     line::end(&mut line, at);
 }
 
 // `C`: offset control, rate control.
 fn close_cycle(item: Item, clock: Clock) -> Clock {
-    let offset_control = script::signed_byte(item[0]);
-    let rate_control = script::signed_byte(item[1]);
+    let offset_control = script::signed_byte(item[OFFSET_CONTROL]);
+    let rate_control = script::signed_byte(item[RATE_CONTROL]);
     let closed = closing::close_cycle(clock, offset_control, rate_control);
     let answer = closed.answer;
     answer_closing(answer);
@@ -100,8 +118,8 @@ fn answer_closing(answer: Closing) {
     let mut line = [0u8; line::ROOM];
     let at = line::put(&mut line, 0, b"close");
     let at = line::decimal(&mut line, at, answer.number() as u64);
-    let at = line::signed(&mut line, at, offset.0);
-    let at = line::signed(&mut line, at, rate.0);
+    let at = line::signed(&mut line, at, offset);
+    let at = line::signed(&mut line, at, rate);
     let at = line::decimals(&mut line, at, &numbers);
     line::end(&mut line, at);
 }

@@ -4,11 +4,25 @@ use crate::item;
 use crate::item::Item;
 use crate::line;
 use crate::script;
+use base_types::Cycle;
+use base_types::Slot;
 use frame::Reading;
-use header::Cycle;
 use header::Fields;
-use header::Slot;
 use libc::STDOUT_FILENO;
+
+// The places of an item of `W`. An item of `F` and of `R` is its channel alone.
+const CHANNEL: usize = 0;
+
+const FLAGS: usize = CHANNEL + 1;
+
+const ID: usize = FLAGS + 1;
+
+const CYCLE: usize = ID + 2;
+
+// How many bytes they have.
+pub const CHANNEL_SIZE: usize = CHANNEL + 1;
+
+pub const WRITE_SIZE: usize = CYCLE + 1;
 
 // Plays the command on frames that has this letter: each takes a size and bytes behind its item, and `W` a room behind them.
 pub fn play(letter: u8, item: Item) -> bool {
@@ -23,8 +37,8 @@ pub fn play(letter: u8, item: Item) -> bool {
 
 fn answer(letter: u8, item: Item, bytes: &[u8]) -> bool {
     match letter {
-        b'F' => answer_checksum(item[0], bytes),
-        b'R' => answer_read(item[0], bytes),
+        b'F' => answer_checksum(item[CHANNEL], bytes),
+        b'R' => answer_read(item[CHANNEL], bytes),
         b'W' => write(item, bytes),
         b'P' => answer_bench(bytes),
         _ => false,
@@ -76,10 +90,10 @@ fn write(item: Item, payload: &[u8]) -> bool {
     if room.is_script_error {
         return false;
     }
-    let fields = fields_of(item[1], item::number(item, 2), item[4]);
+    let fields = fields_of(item[FLAGS], item::number(item, ID), item[CYCLE]);
     let lent = room.bytes;
     let mut output = [0xA5u8; script::MOST];
-    answer_write(item[0], fields, payload, &mut output[0..lent])
+    answer_write(item[CHANNEL], fields, payload, &mut output[0..lent])
 }
 
 // The fields to write. A flag is a bit, the first the lowest; the bits above the five are not looked at.

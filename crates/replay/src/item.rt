@@ -1,7 +1,10 @@
 // An item: the bytes behind a letter, up to the first size. It is taken whole before the command is played, so that only the commands
 // that take bytes behind it, which are `A` and those on frames, can meet a script error while they play.
-ghost use Prim.Native.Nat.{_≤_};
+ghost use Prim.Native.Nat.{_+_, _≤_};
+ghost use Rattle.replay.specs.Items.{itemRoom};
 use crate::clock_states;
+use crate::clocks;
+use crate::frames;
 use crate::script;
 use crate::sheet;
 use crate::slots;
@@ -30,18 +33,17 @@ pub fn take(letter: u8) -> TakenItem {
     }
 }
 
-// How many bytes stand behind this letter up to the first size. (The bound in the contract is ROOM, and so are those below, less what
-// is read from a place on.)
+// How many bytes stand behind this letter up to the first size. (The bound in the contract is ROOM.)
 fn size_behind(letter: u8) -> usize
-    ensures { λ r. ⌜ r ≤ 385 ⌝ }
+    ensures { λ r. ⌜ r ≤ itemRoom ⌝ }
 {
     match letter {
-        b'F' | b'R' => 1,
-        b'W' => 5,
+        b'F' | b'R' => frames::CHANNEL_SIZE,
+        b'W' => frames::WRITE_SIZE,
         b'L' => sheet::SIZE,
-        b'O' => 1,
-        b'M' => 8,
-        b'C' => 2,
+        b'O' => clocks::OPEN_SIZE,
+        b'M' => clocks::MEASURE_SIZE,
+        b'C' => clocks::CLOSE_SIZE,
         b'K' => clock_states::SIZE,
         b'S' => slots::SIZE,
         b'T' => statuses::SIZE,
@@ -65,14 +67,14 @@ pub fn is_switch(byte: u8) -> bool {
 
 // The number of two bytes at this place.
 pub(crate) fn number(item: Item, at: usize) -> u16
-    requires { ⌜ at ≤ 383 ⌝ }
+    requires { ⌜ at + 2 ≤ itemRoom ⌝ }
 {
     script::number(item[at], item[at + 1])
 }
 
 // The number of four bytes at this place.
 pub(crate) fn long(item: Item, at: usize) -> u32
-    requires { ⌜ at ≤ 381 ⌝ }
+    requires { ⌜ at + 4 ≤ itemRoom ⌝ }
 {
     let low = script::number(item[at], item[at + 1]);
     let high = script::number(item[at + 2], item[at + 3]);

@@ -1,6 +1,8 @@
 // A line of the output, built in a lent buffer and written in one piece. A function that puts something at a position
 // answers the position behind it.
 ghost use Prim.Native.Nat.{_≤_};
+ghost use Rattle.replay.specs.Items.{lineRoom};
+use base_types::SignedMicrotick;
 use libc::STDOUT_FILENO;
 
 // Room for every line. The longest is that of a write with 600 bytes of output: 1,213 characters.
@@ -49,15 +51,14 @@ pub fn decimals(line: &mut [u8; ROOM], at: usize, numbers: &[u64]) -> usize {
     at
 }
 
-// Puts a space and the number, with `-` before a negative one. (It is made wide first, since the lowest has no counterpart of its
-// own width.)
-pub fn signed(line: &mut [u8; ROOM], at: usize, number: i32) -> usize {
-    let wide = number as i64;
-    if wide < 0 {
+// Puts a space and the number, with `-` before a negative one.
+pub fn signed(line: &mut [u8; ROOM], at: usize, number: SignedMicrotick) -> usize {
+    let amount = number.amount() as u64;
+    if number.is_negative() {
         let at = put(line, at, b" -");
-        return put_digits(line, at, (0 - wide) as u64);
+        return put_digits(line, at, amount);
     }
-    decimal(line, at, wide as u64)
+    decimal(line, at, amount)
 }
 
 // Puts a space and the bytes in hex, or `-` where there are none.
@@ -104,7 +105,7 @@ fn digit(byte: u8) -> u8 {
 
 // Puts a byte where there is room for it. The bound in the contract is ROOM, and lets `end` write what stands before it.
 fn put_byte(line: &mut [u8; ROOM], at: usize, byte: u8) -> usize
-    ensures { λ r. ⌜ r ≤ 1300 ⌝ }
+    ensures { λ r. ⌜ r ≤ lineRoom ⌝ }
 {
     if ROOM <= at {
         return ROOM;

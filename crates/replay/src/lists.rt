@@ -1,26 +1,34 @@
 // A sync list in a script, and in a line.
-ghost use Prim.Native.Nat.{_≤_};
+ghost use Prim.Native.Nat.{_+_, _≤_};
+ghost use Rattle.replay.specs.Items.{rowSize, listSize, itemRoom};
 use crate::item;
 use crate::item::Item;
 use crate::line;
 use crate::script;
-use correction::SignedMicrotick;
-use header::Slot;
+use base_types::SignedMicrotick;
+use base_types::Slot;
 use sync_list::Measured;
 use sync_list::Measurement;
 use sync_list::ROWS;
 use sync_list::Row;
 use sync_list::SyncList;
 
+// The places of a row, behind its ID.
+const SEEN: usize = 2;
+
+const ON_A: usize = SEEN + 1;
+
+const ON_B: usize = ON_A + 4;
+
 // How many bytes a row has, and a list: a count and the rows.
-const ROW_SIZE: usize = 11;
+const ROW_SIZE: usize = ON_B + 4;
 
 pub const SIZE: usize = 1 + ROWS * ROW_SIZE;
 
-// The list at this place of an item: a count and the rows. A row behind the count is taken as it stands: that it is not listed is
-// for the list to know.
+// The list at this place of an item: a count and the rows. A row behind the count is taken as it stands; the list itself
+// knows that it is not listed.
 pub(crate) fn of(item: Item, at: usize) -> SyncList
-    requires { ⌜ at ≤ 219 ⌝ }
+    requires { ⌜ at + listSize ≤ itemRoom ⌝ }
 {
     let mut rows = [Row::blank(Slot(0)); ROWS];
     let mut i: usize = 0;
@@ -38,13 +46,13 @@ pub(crate) fn of(item: Item, at: usize) -> SyncList
 // ID, seen, deviation on A, deviation on B. A bit of seen says whether the deviation of its channel is looked at, A's the lowest;
 // the bits above the two are not looked at.
 fn row_of(item: Item, at: usize) -> Row
-    requires { ⌜ at ≤ 374 ⌝ }
+    requires { ⌜ at + rowSize ≤ itemRoom ⌝ }
 {
-    let seen = item[at + 2];
+    let seen = item[at + SEEN];
     Row {
         id: Slot(item::number(item, at)),
-        on_a: measured_of(seen % 2 == 1, item::long(item, at + 3)),
-        on_b: measured_of(seen / 2 % 2 == 1, item::long(item, at + 7)),
+        on_a: measured_of(seen % 2 == 1, item::long(item, at + ON_A)),
+        on_b: measured_of(seen / 2 % 2 == 1, item::long(item, at + ON_B)),
     }
 }
 
@@ -88,10 +96,9 @@ fn seen_of(on_a: Measured, on_b: Measured) -> u64 {
 }
 
 // The deviation, 0 where nothing was measured.
-fn deviation_of(measured: Measured) -> i32 {
+fn deviation_of(measured: Measured) -> SignedMicrotick {
     let Measured::Is(measurement) = measured else {
-        return 0;
+        return SignedMicrotick(0);
     };
-    let deviation = measurement.deviation;
-    deviation.0
+    measurement.deviation
 }

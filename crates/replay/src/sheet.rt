@@ -4,8 +4,11 @@ use crate::item::Item;
 use crate::line;
 use settings::Settings;
 
-// The place of the switch, behind the eleven numbers of four bytes.
-const SWITCH: usize = 44;
+// How many bytes a field has.
+const FIELD_SIZE: usize = 4;
+
+// The place of the switch, behind the fields.
+const SWITCH: usize = settings::FIELDS * FIELD_SIZE;
 
 // How many bytes a sheet has.
 pub const SIZE: usize = SWITCH + 1;
@@ -19,7 +22,7 @@ pub fn of(item: Item) -> Settings {
     let mut fields = [0u32; settings::FIELDS];
     let mut i = 0;
     while i < settings::FIELDS {
-        fields[i] = item::long(item, i * 4);
+        fields[i] = item::long(item, i * FIELD_SIZE);
         i += 1;
     }
     Settings {
@@ -28,7 +31,7 @@ pub fn of(item: Item) -> Settings {
     }
 }
 
-// Puts the eleven numbers and the switch.
+// Puts the fields and the switch.
 pub fn put(line: &mut [u8; line::ROOM], at: usize, settings: Settings) -> usize {
     let fields = settings.fields;
     let mut at = at;

@@ -4,12 +4,13 @@ use crate::item;
 use crate::item::Item;
 use crate::line;
 use crate::sheet;
-use checksum::Channel;
-use checksum::Named;
-use header::Cycle;
+use base_types::Channel;
+use base_types::Cycle;
+use base_types::Named;
+use base_types::Slot;
 use header::Header;
-use header::Slot;
 use slot::Kept;
+use slot::Miss;
 use slot::Reason;
 use slot::Status;
 
@@ -76,11 +77,11 @@ fn channel_of(switch: u8) -> Channel {
 
 fn reason_of(number: u8) -> Reason {
     match number {
-        1 => Reason::OtherId,
-        2 => Reason::OtherCycle,
-        3 => Reason::OtherWords,
-        4 => Reason::SyncOrStartup,
-        5 => Reason::NullFrame,
+        1 => Reason::Missed(Miss::OtherId),
+        2 => Reason::Missed(Miss::OtherCycle),
+        3 => Reason::Missed(Miss::OtherWords),
+        4 => Reason::Missed(Miss::SyncOrStartup),
+        5 => Reason::Missed(Miss::NullFrame),
         _ => Reason::NoReason,
     }
 }
@@ -129,11 +130,17 @@ pub fn show(status: Status) {
 fn number_of(reason: Reason) -> u64 {
     match reason {
         Reason::NoReason => 0,
-        Reason::OtherId => 1,
-        Reason::OtherCycle => 2,
-        Reason::OtherWords => 3,
-        Reason::SyncOrStartup => 4,
-        Reason::NullFrame => 5,
+        Reason::Missed(miss) => number_of_miss(miss),
+    }
+}
+
+fn number_of_miss(miss: Miss) -> u64 {
+    match miss {
+        Miss::OtherId => 1,
+        Miss::OtherCycle => 2,
+        Miss::OtherWords => 3,
+        Miss::SyncOrStartup => 4,
+        Miss::NullFrame => 5,
     }
 }
 

@@ -2,17 +2,20 @@
 use Prim.Native.Nat.{ℕ}
 use mathlib.Core.Bool.{Bool, true, false, not, _&&_, _||_, cond}
 use lib.Dec.{eqb, leb}
-use Rattle.checksum.specs.declared.Channel.{Channel}
-use Rattle.checksum.specs.declared.Channel.the-variants.{A}
-use Rattle.checksum.specs.Channel.{channelOf}
-use Rattle.header.specs.declared.Slot.{Slot}
-use Rattle.header.specs.declared.Cycle.{Cycle}
+use Rattle.base_types.specs.declared.channel.Channel.{Channel}
+use Rattle.base_types.specs.declared.channel.Channel.the-variants.{A}
+use Rattle.base_types.specs.Channel.{channelOf}
+use Rattle.base_types.specs.declared.id.Slot.{Slot}
+use Rattle.base_types.specs.declared.cycle.Cycle.{Cycle}
 use Rattle.header.specs.declared.Header.{Header}
 use Rattle.header.specs.Layout.{noHeader}
 use Rattle.settings.specs.declared.Settings.{Settings}
 use Rattle.settings.specs.Sheet.{staticPayloadWords, staticSlots, noSettings}
+use Rattle.slot.specs.declared.status.Miss.the-variants.{OtherId, OtherCycle, OtherWords, SyncOrStartup, NullFrame}
+use Rattle.slot.specs.declared.status.Tested.{Tested}
+use Rattle.slot.specs.declared.status.Tested.the-variants as tested
 use Rattle.slot.specs.declared.status.Reason.{Reason}
-use Rattle.slot.specs.declared.status.Reason.the-variants.{NoReason, OtherId, OtherCycle, OtherWords, SyncOrStartup, NullFrame}
+use Rattle.slot.specs.declared.status.Reason.the-variants as reason
 use Rattle.slot.specs.declared.status.Kept.{Kept}
 use Rattle.slot.specs.declared.status.Kept.the-variants.{Nothing, Frame}
 use Rattle.slot.specs.declared.status.Status.{Status}
@@ -51,7 +54,7 @@ fresh p =
       conflict = false;
       valid = false;
       «own_sending» = false;
-      reason = NoReason;
+      reason = reason.NoReason;
       kept = Nothing;
     }
 
@@ -86,23 +89,31 @@ missesClear p h = isDynamic p && (h .sync || h .startup)
 abbrev pub missesNotNull : Place → Header → Bool
 missesNotNull p h = isDynamic p && not (h .«null_frame_bit»)
 
--- "tested in this order, the first miss giving a content reason".
-abbrev pub firstMiss : Place → Header → Reason
+-- "tested in this order": the first miss, or none.
+abbrev pub firstMiss : Place → Header → Tested
 firstMiss p h =
-    cond (missesId p h) OtherId
-    (cond (missesCycle p h) OtherCycle
-    (cond (missesWords p h) OtherWords (cond (missesClear p h) SyncOrStartup (cond (missesNotNull p h) NullFrame NoReason))))
+    cond (missesId p h) (tested.Missed OtherId)
+    (cond (missesCycle p h) (tested.Missed OtherCycle)
+    (cond (missesWords p h) (tested.Missed OtherWords)
+    (cond (missesClear p h) (tested.Missed SyncOrStartup)
+    (cond (missesNotNull p h) (tested.Missed NullFrame) tested.Passed))))
+
+-- "passes (a) to (e)".
+abbrev pub isPassed : Tested → Bool
+isPassed tested.Passed = true
+isPassed (tested.Missed miss) = false
+
+-- "the first miss giving a content reason".
+abbrev pub reasonBy : Tested → Reason
+reasonBy tested.Passed = reason.NoReason
+reasonBy (tested.Missed miss) = reason.Missed miss
+
+-- ---- a status
 
 -- A reason, and not the absence of one.
 abbrev pub isReason : Reason → Bool
-isReason NoReason = false
-isReason OtherId = true
-isReason OtherCycle = true
-isReason OtherWords = true
-isReason SyncOrStartup = true
-isReason NullFrame = true
-
--- ---- a status
+isReason reason.NoReason = false
+isReason (reason.Missed miss) = true
 
 -- A frame, and not the absence of one.
 abbrev pub isFrame : Kept → Bool

@@ -2,14 +2,16 @@
 use mathlib.Core.Bool.{Bool, true, false, not, _&&_}
 use lib.Dec.{eqb, leb}
 use Rattle.refusal.specs.Refusal.{first}
-use Rattle.checksum.specs.Channel.{numberOf}
+use Rattle.base_types.specs.Channel.{numberOf}
 use Rattle.header.specs.declared.Header.{Header}
 use Rattle.header.specs.Layout.{mostWords, headerChecksumOf}
-use Rattle.header.specs.Refusals.{notAnId, cycleTooHigh, startupWithoutSync}
+use Rattle.base_types.specs.Slot.{notAnId}
+use Rattle.base_types.specs.Cycle.{cycleTooHigh}
+use Rattle.header.specs.Refusals.{startupWithoutSync}
 use Rattle.slot.specs.declared.status.Kept.{Kept}
 use Rattle.slot.specs.declared.status.Kept.the-variants.{Nothing, Frame}
 use Rattle.slot.specs.declared.status.Status.{Status}
-use Rattle.slot.specs.Judging.{Place, placeOf, firstMiss, isReason, isFrame, hasArrival}
+use Rattle.slot.specs.Judging.{Place, placeOf, firstMiss, isPassed, isReason, isFrame, hasArrival}
 use Rattle.slot.specs.Opening.{openingRefusals}
 
 -- "its settings, channel, slot and cycle would open a slot".
@@ -26,7 +28,7 @@ couldBeRead h =
 -- "is one that a read could give and passes (a) to (e)". Where no frame is kept, nothing is asked.
 abbrev pub keepsWell : Place → Kept → Bool
 keepsWell p Nothing = true
-keepsWell p (Frame h) = couldBeRead h && not (isReason (firstMiss p h))
+keepsWell p (Frame h) = couldBeRead h && isPassed (firstMiss p h)
 
 -- "stands exactly with".
 abbrev pub exactlyWith : Bool → Bool → Bool

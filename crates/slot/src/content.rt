@@ -1,8 +1,9 @@
 // Tests (a) to (e), by which a frame is right or wrong for its slot.
 ghost use mathlib.Core.Path.{_≡_};
 ghost use Rattle.slot.specs.Judging.{placeOf, isStatic, missesWords, missesClear, missesNotNull, firstMiss};
-use crate::status::Reason;
+use crate::status::Miss;
 use crate::status::Status;
+use crate::status::Tested;
 use header::Header;
 
 // Whether the slot is static, by the settings that it was opened with. Any other is dynamic.
@@ -12,26 +13,26 @@ pub fn is_static(status: Status) -> bool
     status.slot.0 as u32 <= status.settings.static_slots()
 }
 
-// The first test that a frame misses. They come in 01's order: which is the first is part of the answer.
-pub fn first_miss(status: Status, header: Header) -> Reason
+// What the tests give: the first that the frame misses, if any. They come in 01's order: which is the first is part of the answer.
+pub fn first_miss(status: Status, header: Header) -> Tested
     ensures { λ r. ⌜ r ≡ firstMiss (placeOf status) header ⌝ }
 {
     if header.id.0 != status.slot.0 {
-        return Reason::OtherId;
+        return Tested::Missed(Miss::OtherId);
     }
     if header.cycle.0 != status.cycle.0 {
-        return Reason::OtherCycle;
+        return Tested::Missed(Miss::OtherCycle);
     }
     if misses_words(status, header) {
-        return Reason::OtherWords;
+        return Tested::Missed(Miss::OtherWords);
     }
     if misses_clear(status, header) {
-        return Reason::SyncOrStartup;
+        return Tested::Missed(Miss::SyncOrStartup);
     }
     if misses_not_null(status, header) {
-        return Reason::NullFrame;
+        return Tested::Missed(Miss::NullFrame);
     }
-    Reason::NoReason
+    Tested::Passed
 }
 
 // Misses (c), which is for static slots.

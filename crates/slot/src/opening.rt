@@ -3,10 +3,10 @@ ghost use mathlib.Core.Path.{_≡_};
 ghost use Rattle.slot.specs.Judging.{noStatus};
 ghost use Rattle.slot.specs.Opening.{told, OpenSays};
 use crate::status::Status;
-use checksum::Channel;
-use checksum::Named;
-use header::Cycle;
-use header::Slot;
+use base_types::Channel;
+use base_types::Cycle;
+use base_types::Named;
+use base_types::Slot;
 use settings::Settings;
 
 // What opening a slot answers: that it is open, or why it is not.

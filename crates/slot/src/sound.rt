@@ -52,7 +52,7 @@ fn keeps_well(status: Status, kept: Kept) -> bool
     if !could_be_read(header) {
         return false;
     }
-    !content::first_miss(status, header).is_reason()
+    content::first_miss(status, header).is_passed()
 }
 
 // Whether a read could give this header.

@@ -1,15 +1,14 @@
 // What is known of a slot: how it was opened, and what happened in it.
 ghost use mathlib.Core.Path.{_≡_};
-ghost use Rattle.slot.specs.Judging.{fresh as Judging·fresh, noStatus, isReason, isFrame, headerKept, firstReason, firstKept, hasArrival};
-use checksum::Channel;
-use header::Cycle;
+ghost use Rattle.slot.specs.Judging.{fresh as Judging·fresh, noStatus, isPassed, reasonBy, isReason, isFrame, headerKept, firstReason, firstKept, hasArrival};
+use base_types::Channel;
+use base_types::Cycle;
+use base_types::Slot;
 use header::Header;
-use header::Slot;
 use settings::Settings;
 
-// The first test that a frame missed, of 01's (a) to (e), or none.
-pub enum Reason {
-    NoReason,
+// The test that a frame misses, of 01's (a) to (e).
+pub enum Miss {
     // (a)
     OtherId,
     // (b)
@@ -20,6 +19,18 @@ pub enum Reason {
     SyncOrStartup,
     // (e)
     NullFrame,
+}
+
+// What the tests of a frame give: it passes all, or this is the first that it misses.
+pub enum Tested {
+    Passed,
+    Missed(Miss),
+}
+
+// The content reason that a slot keeps, or none. Only `Tested::reason` makes one of what the tests give.
+pub enum Reason {
+    NoReason,
+    Missed(Miss),
 }
 
 // The header of the first frame that missed no test, or none.
@@ -44,6 +55,28 @@ pub struct Status {
     pub kept: Kept,
 }
 
+impl Tested {
+    // The frame passes all tests.
+    pub fn is_passed(self) -> bool
+        ensures { λ r. ⌜ r ≡ isPassed self ⌝ }
+    {
+        match self {
+            Tested::Passed => true,
+            Tested::Missed(_) => false,
+        }
+    }
+
+    // The content reason that the tests give.
+    pub fn reason(self) -> Reason
+        ensures { λ r. ⌜ r ≡ reasonBy self ⌝ }
+    {
+        match self {
+            Tested::Passed => Reason::NoReason,
+            Tested::Missed(miss) => Reason::Missed(miss),
+        }
+    }
+}
+
 impl Reason {
     // A reason, and not the absence of one.
     pub fn is_reason(self) -> bool
@@ -51,11 +84,7 @@ impl Reason {
     {
         match self {
             Reason::NoReason => false,
-            Reason::OtherId => true,
-            Reason::OtherCycle => true,
-            Reason::OtherWords => true,
-            Reason::SyncOrStartup => true,
-            Reason::NullFrame => true,
+            Reason::Missed(_) => true,
         }
     }
 

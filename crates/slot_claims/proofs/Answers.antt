@@ -5,7 +5,7 @@ use mathlib.Core.Bool.{cond}
 use lib.Dec.{eqb}
 use Rattle.refusal.specs.Refusal.{numbered}
 use Rattle.refusal.proofs.FirstLaws.{told-in-order, if-refused}
-use Rattle.frame_claims.proofs.Answers.{one-answer}
+use Rattle.refusal.proofs.AnswerLaws.{one-answer}
 use Rattle.slot.specs.declared.status.Status.{Status}
 use Rattle.slot.specs.declared.opening.Opening.{Opening}
 use Rattle.slot.specs.declared.opening.Opening.the-variants.{Opened, SettingOutOfRange, NotAChannel, NotASlot, CycleTooHigh}

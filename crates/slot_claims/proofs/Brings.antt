@@ -11,14 +11,16 @@ use Rattle.header.specs.declared.Header.{Header}
 use Rattle.frame.specs.declared.Reading.the-variants.{Accepted}
 use Rattle.frame.specs.Read as read
 use Rattle.frame.specs.Read.{headerRead, refusalsOn, ReadOnSays}
-use Rattle.slot.specs.declared.status.Reason.{Reason}
+use Rattle.slot.specs.declared.status.Miss.{Miss}
+use Rattle.slot.specs.declared.status.Tested.{Tested}
+use Rattle.slot.specs.declared.status.Tested.the-variants as tested
 use Rattle.slot.specs.declared.status.Reason.the-variants as reason
 use Rattle.slot.specs.declared.status.Kept.the-variants as kept
-use Rattle.slot.specs.Judging.{Place, firstMiss, isReason, isFrame}
+use Rattle.slot.specs.Judging.{Place, firstMiss, reasonBy, isReason, isFrame}
 use Rattle.slot_events.specs.Effect.{Event, Brought, arrival, boundaryActivity, ownSending, keptBy, isRefused, ofArrival, brings}
 use Rattle.slot_events.proofs.EventLaws.{brings-refused, brings-frame}
 use Rattle.slot_claims.specs.Histories.{Arrives, ArrivesRefused, ArrivesMissing, ArrivesPassing}
-use Rattle.slot_claims.proofs.ReasonLaws.{reason-there, kept-frame}
+use Rattle.slot_claims.proofs.ReasonLaws.{missed-first, kept-frame}
 use Rattle.slot_claims.proofs.Content.{tests-exactly}
 
 -- ---- arrived bytes
@@ -30,7 +32,7 @@ EitherWay p bytes = (isRefused (p .channel) bytes ≡ true) ⊎ ((h : Header) ×
 module _ (p : Place) (bytes : List ℕ) where
   -- the answer of reading where nothing is refused
   accepts : isRefused (p .channel) bytes ≡ false → ReadOnSays (p .channel) bytes (Accepted (headerRead bytes))
-  accepts e = sym (ap (λ (n : ℕ). read.rule n bytes) (eqb-true (first (refusalsOn (p .channel) bytes)) 0 (not-false _ e)))
+  accepts e = sym (ap (λ (n : ℕ). read.tells n bytes) (eqb-true (first (refusalsOn (p .channel) bytes)) 0 (not-false _ e)))
 
   either-way : EitherWay p bytes
   either-way = cases (isRefused (p .channel) bytes) inl (λ t. inr (headerRead bytes, accepts t))
@@ -43,8 +45,8 @@ OnlyArrival b = (b .arrived ≡ true) × (b .atBoundary ≡ false) × (b .sent �
 
 only-arrival : (p : Place) (bytes : List ℕ) → OnlyArrival (brings p (arrival bytes))
 only-arrival p bytes =
-    let miss = firstMiss p (headerRead bytes) in
-    cases-in (λ b. OnlyArrival (cond b (ofArrival true reason.NoReason kept.Nothing) (ofArrival false miss (keptBy miss (headerRead bytes)))))
+    let given = firstMiss p (headerRead bytes) in
+    cases-in (λ b. OnlyArrival (cond b (ofArrival true reason.NoReason kept.Nothing) (ofArrival false (reasonBy given) (keptBy given (headerRead bytes)))))
     (isRefused (p .channel) bytes) (λ t. (refl, refl, refl)) (λ t. (refl, refl, refl))
 
 pub arrives-exactly : (p : Place) (e : Event) → (brings p e .arrived ≡ true) ↔ Arrives e
@@ -68,25 +70,23 @@ refused-exactly p e = (there e, back)
         ap (λ (x : Event). brings p x .refused) (f .1)
         ∙ came (either-way p (f .0)) (λ out. ap (λ (b : Brought). b .refused) (brings-refused p (f .0) out)) (λ a. absurd (f .2 (a .0) (a .1)))
 
-pub misses-exactly : (p : Place) (r : Reason) (e : Event) → isReason r ≡ true → (brings p e .reason ≡ r) ↔ ArrivesMissing p r e
-misses-exactly p r e is = (there e, back)
+pub misses-exactly : (p : Place) (miss : Miss) (e : Event) → (brings p e .reason ≡ reason.Missed miss) ↔ ArrivesMissing p miss e
+misses-exactly p miss e = (there e, back)
   where
-    none : reason.NoReason ≡ r → ⊥
-    none t = false≢true (ap isReason t ∙ is)
-
-    there : (e : Event) → brings p e .reason ≡ r → ArrivesMissing p r e
-    there boundaryActivity t = absurd (none t)
-    there ownSending t = absurd (none t)
+    there : (e : Event) → brings p e .reason ≡ reason.Missed miss → ArrivesMissing p miss e
+    there boundaryActivity t = absurd (false≢true (ap isReason t))
+    there ownSending t = absurd (false≢true (ap isReason t))
     there (arrival bytes) t =
         came (either-way p bytes)
-        (λ out. absurd (none (sym (ap (λ (b : Brought). b .reason) (brings-refused p bytes out)) ∙ t)))
+        (λ out. absurd (false≢true (ap isReason (sym (ap (λ (b : Brought). b .reason) (brings-refused p bytes out)) ∙ t))))
         (λ a.
-        let missed = tests-exactly p (a .0) r .0 (sym (ap (λ (b : Brought). b .reason) (brings-frame p bytes (a .0) (a .1))) ∙ t) in
-        (bytes, refl, a .0, a .1, missed, reason-there r is))
+        let first = missed-first (firstMiss p (a .0)) miss (sym (ap (λ (b : Brought). b .reason) (brings-frame p bytes (a .0) (a .1))) ∙ t) in
+        (bytes, refl, a .0, a .1, tests-exactly p (a .0) (tested.Missed miss) .0 first))
 
-    back : ArrivesMissing p r e → brings p e .reason ≡ r
-    back m = ap (λ (x : Event). brings p x .reason) (m .1) ∙ ap (λ (b : Brought). b .reason) (brings-frame p (m .0) (m .2) (m .3))
-        ∙ tests-exactly p (m .2) r .1 (m .4)
+    back : ArrivesMissing p miss e → brings p e .reason ≡ reason.Missed miss
+    back m =
+        ap (λ (x : Event). brings p x .reason) (m .1) ∙ ap (λ (b : Brought). b .reason) (brings-frame p (m .0) (m .2) (m .3))
+        ∙ ap reasonBy (tests-exactly p (m .2) (tested.Missed miss) .1 (m .4))
 
 pub passes-exactly : (p : Place) (h : Header) (e : Event) → (brings p e .kept ≡ kept.Frame h) ↔ ArrivesPassing p h e
 passes-exactly p h e = (there e, back)
@@ -102,26 +102,26 @@ passes-exactly p h e = (there e, back)
           bytes,
           refl,
           subst (λ (x : Header). ReadOnSays (p .channel) bytes (Accepted x)) (k .1) (a .1),
-          tests-exactly p h reason.NoReason .0 (ap (firstMiss p) (sym (k .1)) ∙ k .0),
+          tests-exactly p h tested.Passed .0 (ap (firstMiss p) (sym (k .1)) ∙ k .0),
         ))
 
     back : ArrivesPassing p h e → brings p e .kept ≡ kept.Frame h
     back m =
         ap (λ (x : Event). brings p x .kept) (m .1) ∙ ap (λ (b : Brought). b .kept) (brings-frame p (m .0) h (m .2))
-        ∙ ap (λ (r : Reason). keptBy r h) (tests-exactly p h reason.NoReason .1 (m .3))
+        ∙ ap (λ (t : Tested). keptBy t h) (tests-exactly p h tested.Passed .1 (m .3))
 
-pub boundary-exactly : (p : Place) (e : Event) → (brings p e .atBoundary ≡ true) ↔ (boundaryActivity ≡ e)
-boundary-exactly p e = (there e, λ same. ap (λ (x : Event). brings p x .atBoundary) (sym same))
+pub boundary-exactly : (p : Place) (e : Event) → (brings p e .atBoundary ≡ true) ↔ (e ≡ boundaryActivity)
+boundary-exactly p e = (there e, ap (λ (x : Event). brings p x .atBoundary))
   where
-    there : (e : Event) → brings p e .atBoundary ≡ true → boundaryActivity ≡ e
+    there : (e : Event) → brings p e .atBoundary ≡ true → e ≡ boundaryActivity
     there boundaryActivity t = refl
     there ownSending t = absurd (false≢true t)
     there (arrival bytes) t = absurd (false≢true (sym (only-arrival p bytes .1) ∙ t))
 
-pub sending-exactly : (p : Place) (e : Event) → (brings p e .sent ≡ true) ↔ (ownSending ≡ e)
-sending-exactly p e = (there e, λ same. ap (λ (x : Event). brings p x .sent) (sym same))
+pub sending-exactly : (p : Place) (e : Event) → (brings p e .sent ≡ true) ↔ (e ≡ ownSending)
+sending-exactly p e = (there e, ap (λ (x : Event). brings p x .sent))
   where
-    there : (e : Event) → brings p e .sent ≡ true → ownSending ≡ e
+    there : (e : Event) → brings p e .sent ≡ true → e ≡ ownSending
     there ownSending t = refl
     there boundaryActivity t = absurd (false≢true t)
     there (arrival bytes) t = absurd (false≢true (sym (only-arrival p bytes .2) ∙ t))

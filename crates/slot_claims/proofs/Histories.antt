@@ -1,10 +1,11 @@
 -- The claims about sequences of events.
 use mathlib.Core.Path.{_≡_, refl, sym, ap, _∙_, subst}
 use mathlib.Core.Bool.{Bool, true, false, not}
-use mathlib.Core.List.{List, [], _∷_, Memᴰ·cast}
+use mathlib.Core.List.{List, [], _∷_}
 use mathlib.Core.Logic.{_↔_, Iff·symm, Iff·trans}
 use Rattle.refusal.specs.Refusal.{first}
 use Rattle.refusal.proofs.FirstLaws.{first-skip, first-end, if-accepted}
+use Rattle.slot.specs.declared.status.Reason.{Reason}
 use Rattle.slot.specs.declared.status.Reason.the-variants as reason
 use Rattle.slot.specs.declared.status.Kept.{Kept}
 use Rattle.slot.specs.declared.status.Kept.the-variants as kept
@@ -14,27 +15,23 @@ use Rattle.slot.specs.Opening.{openingRefusals, Told}
 use Rattle.slot.specs.Sound.{sound}
 use Rattle.slot_events.specs.Effect.{Event, boundaryActivity, ownSending, brings, after}
 use Rattle.slot_events.specs.Events.{eventRefusals}
-use Rattle.slot_claims.specs.Histories.{Arrives, ArrivesRefused, ArrivesMissing, ArrivesPassing, Misses, PassesAll, Occurs, Some, History, HistoryOne, Calls, NoneRefused, Histories}
+use Rattle.slot_claims.specs.Histories.{Arrives, ArrivesRefused, ArrivesMissing, ArrivesPassing, Misses, PassesAll, AnyTime, Some, Occurs, History, HistoryOne, Calls, NoneRefused, Histories}
 use Rattle.numbers.proofs.Truth.{both-true, true-both, same-true}
 use Rattle.numbers.proofs.Walk.{cases}
-use Rattle.slot_claims.proofs.ReasonLaws.{reason-there, there-reason, no-reason, frame-there, no-frame}
-use Rattle.slot_claims.proofs.Sound.{Clauses, clauses}
+use Rattle.slot_claims.proofs.ReasonLaws.{no-reason, miss-there, frame-there, no-frame}
+use Rattle.slot.proofs.SoundLaws.{Clauses, clauses}
 use Rattle.slot_claims.proofs.SoundCalls.{fits, has-after, after-sound, fresh-sound}
 use Rattle.slot_claims.proofs.Brings.{arrives-exactly, refused-exactly, misses-exactly, passes-exactly, boundary-exactly, sending-exactly}
 use Rattle.slot_claims.proofs.AfterAll.{afterAll, all-place, all-sound, end, flag-exactly, first-exactly}
 
 -- ---- what is exactly so
 
--- this very event is among them
-some-is : (x : Event) (events : List Event) → Some (λ e. x ≡ e) events ↔ Occurs x events
-some-is x events = (λ s. Memᴰ·cast (s .2) (s .1), λ m. (x, m, refl))
-
 misses-some : (p : Place) (e : Event) → (isReason (brings p e .reason) ≡ true) ↔ Misses p e
 misses-some p e = (
-  λ t. (brings p e .reason, misses-exactly p (brings p e .reason) e t .0 refl),
-  λ m.
-      let is : isReason (m .0) ≡ true = there-reason (m .0) (m .1 .5) in
-      ap isReason (misses-exactly p (m .0) e is .1 (m .1)) ∙ is,
+  λ t.
+      let m = miss-there (brings p e .reason) t in
+      (m .0, misses-exactly p (m .0) e .0 (m .1)),
+  λ m. ap isReason (misses-exactly p (m .0) e .1 (m .1)),
 )
 
 passes-all : (p : Place) (e : Event) → (isFrame (brings p e .kept) ≡ true) ↔ PassesAll p e
@@ -48,33 +45,37 @@ passes-all p e = (
 module _ (p : Place) (good : sound (fresh p) ≡ true) (events : List Event) where
   sent-exactly : (end p events .«own_sending» ≡ true) ↔ Occurs ownSending events
   sent-exactly =
-      Iff·trans (flag-exactly (λ s. s .«own_sending») (λ b. b .sent) (λ s e. refl) (λ e. ownSending ≡ e) p events refl (sending-exactly p))
-      (some-is ownSending events)
+      flag-exactly (λ s. s .«own_sending») (λ s b. b .sent) (λ s e. refl) (AnyTime (λ e. e ≡ ownSending)) p events refl (λ before. sending-exactly p)
 
-  arrived-exactly : (hasArrival (end p events) ≡ true) ↔ Some Arrives events
+  arrived-exactly : (hasArrival (end p events) ≡ true) ↔ Some (AnyTime Arrives) events
   arrived-exactly =
-      flag-exactly hasArrival (λ b. b .arrived) (λ s e. has-after s (brings (placeOf s) e) (fits (placeOf s) e)) Arrives p events refl (arrives-exactly p)
+      flag-exactly hasArrival (λ s b. b .arrived) (λ s e. has-after s (brings (placeOf s) e) (fits (placeOf s) e)) (AnyTime Arrives) p events refl
+      (λ before. arrives-exactly p)
 
   history : History p events (end p events)
   history =
       record {
         place = all-place (fresh p) events;
-        syntax = flag-exactly (λ s. s .«syntax_error») (λ b. b .refused) (λ s e. refl) (ArrivesRefused p) p events refl (refused-exactly p);
-        content = flag-exactly (λ s. s .«content_error») (λ b. isReason (b .reason)) (λ s e. refl) (Misses p) p events refl (misses-some p);
+        syntax =
+            flag-exactly (λ s. s .«syntax_error») (λ s b. b .refused) (λ s e. refl) (AnyTime (ArrivesRefused p)) p events refl
+            (λ before. refused-exactly p);
+        content =
+            flag-exactly (λ s. s .«content_error») (λ s b. isReason (b .reason)) (λ s e. refl) (AnyTime (Misses p)) p events refl
+            (λ before. misses-some p);
         reason =
-            λ r named.
-            let is : isReason r ≡ true = there-reason r named in
-            first-exactly isReason (λ s. s .reason) (λ b. b .reason) (λ s e. refl) (Misses p) p events refl (misses-some p) r is
-            (ArrivesMissing p r) (λ e. misses-exactly p r e is);
-        valid = flag-exactly (λ s. s .valid) (λ b. isFrame (b .kept)) (λ s e. refl) (PassesAll p) p events refl (passes-all p);
+            λ miss.
+            first-exactly isReason (λ s. s .reason) (λ s b. b .reason) (λ s e. refl) (AnyTime (Misses p)) p events refl (λ before. misses-some p)
+            (reason.Missed miss) refl (AnyTime (ArrivesMissing p miss)) (λ before. misses-exactly p miss);
+        valid =
+            flag-exactly (λ s. s .valid) (λ s b. isFrame (b .kept)) (λ s e. refl) (AnyTime (PassesAll p)) p events refl
+            (λ before. passes-all p);
         kept =
             λ h.
-            first-exactly isFrame (λ s. s .kept) (λ b. b .kept) (λ s e. refl) (PassesAll p) p events refl (passes-all p) (kept.Frame h) refl
-            (ArrivesPassing p h) (passes-exactly p h);
+            first-exactly isFrame (λ s. s .kept) (λ s b. b .kept) (λ s e. refl) (AnyTime (PassesAll p)) p events refl (λ before. passes-all p)
+            (kept.Frame h) refl (AnyTime (ArrivesPassing p h)) (λ before. passes-exactly p h);
         boundary =
-            Iff·trans
-            (flag-exactly (λ s. s .«boundary_violation») (λ b. b .atBoundary) (λ s e. refl) (λ e. boundaryActivity ≡ e) p events refl (boundary-exactly p))
-            (some-is boundaryActivity events);
+            flag-exactly (λ s. s .«boundary_violation») (λ s b. b .atBoundary) (λ s e. refl) (AnyTime (λ e. e ≡ boundaryActivity)) p events refl
+            (λ before. boundary-exactly p);
         sending = sent-exactly;
         conflict = (
           λ t.
@@ -104,7 +105,9 @@ module _ (p : Place) (events : List Event) (s t : Status) (hs : History p events
   same-reason : s .reason ≡ t .reason
   same-reason =
       same-thing isReason reason.NoReason no-reason (s .reason) (t .reason)
-      (λ r is. Iff·trans (hs .reason r (reason-there r is)) (Iff·symm (ht .reason r (reason-there r is))))
+      (λ r is.
+      let m = miss-there r is in
+      subst (λ (x : Reason). (s .reason ≡ x) ↔ (t .reason ≡ x)) (sym (m .1)) (Iff·trans (hs .reason (m .0)) (Iff·symm (ht .reason (m .0)))))
 
   same-kept : s .kept ≡ t .kept
   same-kept =

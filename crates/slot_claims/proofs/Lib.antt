@@ -1,6 +1,6 @@
 pub mod ReasonLaws
 pub mod Answers
-pub mod Sheet
+pub mod Typed
 pub mod Content
 pub mod Readable
 pub mod Sound

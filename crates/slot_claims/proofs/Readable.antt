@@ -11,17 +11,20 @@ use Rattle.refusal.specs.Refusal.{first, numbered}
 use Rattle.refusal.proofs.FirstLaws.{not-refused}
 use Rattle.division.specs.Bits.{bytesOf}
 use Rattle.division.proofs.BytesLaws.{length-bytes-of, are-bytes-of}
-use Rattle.checksum.specs.declared.Channel.{Channel}
+use Rattle.base_types.specs.declared.channel.Channel.{Channel}
 use Rattle.header.specs.declared.Header.{Header}
 use Rattle.header.specs.Layout.{mostWords, headerChecksumOf}
-use Rattle.header.specs.Refusals.{startupWithoutSync, notAnId, cycleTooHigh}
+use Rattle.header.specs.Refusals.{startupWithoutSync}
+use Rattle.base_types.specs.Slot.{notAnId}
+use Rattle.base_types.proofs.SlotLaws.{id-range}
+use Rattle.base_types.specs.Cycle.{highestCycle, cycleTooHigh}
 use Rattle.frame.specs.Layout.{Frame}
 use Rattle.frame.specs.Read as read
 use Rattle.frame.specs.Read.{headerRead, refusalsOn}
 use Rattle.writing.specs.Write.{frameBytes}
 use Rattle.frame_claims.specs.Exact.{fieldsOf}
 use Rattle.frame_claims.proofs.Reading.{id-small, words-small, cycle-small, frame-header, frame-accepted}
-use Rattle.frame_claims.proofs.FrameLaws.{id-range, good-payload, from-fields}
+use Rattle.frame_claims.proofs.FrameLaws.{good-payload, from-fields}
 use Rattle.frame_claims.proofs.Exact.{written-frame}
 use Rattle.slot.specs.Sound.{couldBeRead}
 use Rattle.slot_events.proofs.EventLaws.{accepted-none}
@@ -53,7 +56,7 @@ read-could channel bytes none =
     let not-zero = eqb-false (h .id .0) 0 (passed 6) in
     let id : notAnId (h .id .0) ≡ false = id-range (h .id .0) .1 (omega arith, id-small bytes) in
     let words : leb (h .words) mostWords ≡ true = le-leb (h .words) mostWords (words-small bytes) in
-    let cycle : cycleTooHigh (h .cycle .0) ≡ false = le-ltb 63 (h .cycle .0) (cycle-small bytes) in
+    let cycle : cycleTooHigh (h .cycle .0) ≡ false = le-ltb highestCycle (h .cycle .0) (cycle-small bytes) in
     let checksum : eqb (h .checksum) (headerChecksumOf h) ≡ true = not-false _ (passed 4) in
     rw (id, words, cycle, passed 7, checksum)
 
@@ -75,7 +78,7 @@ module _ (channel : Channel) (h : Header) (could : couldBeRead h ≡ true) where
         bytes,
         framed .areBytes,
         ap (λ (x : Header). record { number = 0; header = x }) (sym (frame-header framed))
-            ∙ ap (λ (n : ℕ). read.rule n bytes) (sym (frame-accepted framed)),
+            ∙ ap (λ (n : ℕ). read.tells n bytes) (sym (frame-accepted framed)),
       )
 
 pub could-be-read-exactly : CouldBeReadExactly

@@ -1,71 +1,32 @@
 -- Soundness, clause by clause, and 01's sentence.
 use Prim.Native.Nat.{ℕ}
 use mathlib.Core.Path.{_≡_, refl, sym, ap, _∙_}
-use mathlib.Core.Bool.{Bool, true, false, not, _&&_, _||_}
+use mathlib.Core.Bool.{true, _&&_, _||_}
 use mathlib.Core.Logic.{_⊎_, inl, inr}
-use borrow.Author.Tests.{eqb-true, eq-eqb, not-true, not-false}
+use borrow.Author.Tests.{eqb-true, eq-eqb, not-false}
 use Rattle.refusal.specs.Refusal.{first}
 use Rattle.refusal.proofs.FirstLaws.{first-zero}
-use Rattle.checksum.specs.Channel.{numberOf}
+use Rattle.base_types.specs.Channel.{numberOf}
 use Rattle.header.specs.declared.Header.{Header}
 use Rattle.settings.specs.Sheet.{firstOutOfRange, outOfRange}
-use Rattle.slot.specs.declared.status.Reason.{Reason}
-use Rattle.slot.specs.declared.status.Reason.the-variants as reason
+use Rattle.slot.specs.declared.status.Tested.the-variants as tested
 use Rattle.slot.specs.declared.status.Kept.{Kept}
 use Rattle.slot.specs.declared.status.Kept.the-variants as kept
 use Rattle.slot.specs.declared.status.Status.{Status}
-use Rattle.slot.specs.Judging.{placeOf, firstMiss, isReason, isFrame, hasArrival}
+use Rattle.slot.specs.Judging.{placeOf, firstMiss, isPassed, isReason, isFrame, hasArrival}
 use Rattle.slot.specs.declared.opening.Opened.{Opened}
 use Rattle.slot.specs.declared.opening.Opening.the-variants as opening
 use Rattle.slot.specs.Opening.{openingRefusals, Told, told, OpenSays}
-use Rattle.slot.specs.Sound.{wouldOpen, couldBeRead, keepsWell, exactlyWith, sound}
+use Rattle.slot.specs.Sound.{couldBeRead, keepsWell}
 use Rattle.slot.proofs.OpeningLaws.{open-says}
+use Rattle.slot.proofs.SoundLaws.{Clauses, clauses, clauses-sound}
 use Rattle.slot_claims.specs.Sound.{Readable, SoundStatus, SoundExactly}
 use Rattle.slot_claims.specs.Content.{Passes}
-use Rattle.slot_claims.proofs.ReasonLaws.{reason-there, there-reason, no-reason, frame-there}
+use Rattle.slot_claims.proofs.ReasonLaws.{reason-there, there-reason, frame-there, all-passed}
 use Rattle.slot_claims.proofs.Content.{tests-exactly}
 use Rattle.numbers.proofs.Truth.{same-true, both-true, true-both, either-true, true-left, true-right}
 use Rattle.numbers.proofs.Walk.{came}
 use Rattle.slot_claims.proofs.Readable.{could-be-read-exactly}
-
--- ---- the clauses of soundness
-
-exactly-same : (a b : Bool) → exactlyWith a b ≡ true → a ≡ b
-exactly-same true b e = sym e
-exactly-same false b e = sym (not-true b e)
-
-same-exactly : (a b : Bool) → a ≡ b → exactlyWith a b ≡ true
-same-exactly true b e = sym e
-same-exactly false b e = ap not (sym e)
-
--- the five clauses, as equations
-pub record Clauses (s : Status) : Type 0 where
-  pub opens : wouldOpen (placeOf s) ≡ true
-  pub content : s .«content_error» ≡ isReason (s .reason)
-  pub valid : s .valid ≡ isFrame (s .kept)
-  pub keeps : keepsWell (placeOf s) (s .kept) ≡ true
-  pub conflict : s .conflict ≡ s .«own_sending» && hasArrival s
-
-pub clauses : (s : Status) → sound s ≡ true → Clauses s
-clauses s e =
-    let p1 = both-true (wouldOpen (placeOf s)) _ e in
-    let p2 = both-true (exactlyWith (s .«content_error») (isReason (s .reason))) _ (p1 .1) in
-    let p3 = both-true (exactlyWith (s .valid) (isFrame (s .kept))) _ (p2 .1) in
-    let p4 = both-true (keepsWell (placeOf s) (s .kept)) _ (p3 .1) in
-    record {
-      opens = p1 .0;
-      content = exactly-same (s .«content_error») (isReason (s .reason)) (p2 .0);
-      valid = exactly-same (s .valid) (isFrame (s .kept)) (p3 .0);
-      keeps = p4 .0;
-      conflict = exactly-same (s .conflict) (s .«own_sending» && hasArrival s) (p4 .1);
-    }
-
-pub clauses-sound : (s : Status) → Clauses s → sound s ≡ true
-clauses-sound s c =
-    true-both (wouldOpen (placeOf s)) _ (c .opens)
-    (true-both (exactlyWith (s .«content_error») (isReason (s .reason))) _ (same-exactly (s .«content_error») (isReason (s .reason)) (c .content))
-    (true-both (exactlyWith (s .valid) (isFrame (s .kept))) _ (same-exactly (s .valid) (isFrame (s .kept)) (c .valid))
-    (true-both (keepsWell (placeOf s) (s .kept)) _ (c .keeps) (same-exactly (s .conflict) (s .«own_sending» && hasArrival s) (c .conflict)))))
 
 -- ---- the rule is 01's sentence
 
@@ -92,9 +53,9 @@ one-of-three s (inr (inr e)) = true-right (s .«syntax_error») (s .«content_er
 module _ (s : Status) (c : Clauses s) where
   kept-read : (h : Header) → s .kept ≡ kept.Frame h → Readable (s .channel) h × Passes (placeOf s) h
   kept-read h e =
-      let p = both-true (couldBeRead h) (not (isReason (firstMiss (placeOf s) h))) (sym (ap (keepsWell (placeOf s)) e) ∙ c .keeps) in (
+      let p = both-true (couldBeRead h) (isPassed (firstMiss (placeOf s) h)) (sym (ap (keepsWell (placeOf s)) e) ∙ c .keeps) in (
         could-be-read-exactly (s .channel) h .0 (p .0),
-        tests-exactly (placeOf s) h reason.NoReason .0 (no-reason (firstMiss (placeOf s) h) (not-true _ (p .1))),
+        tests-exactly (placeOf s) h tested.Passed .0 (all-passed (firstMiss (placeOf s) h) (p .1)),
       )
 
   in-words : SoundStatus s
@@ -117,8 +78,8 @@ module _ (s : Status) (w : SoundStatus s) where
   keeps-well kept.Nothing e = refl
   keeps-well (kept.Frame h) e =
       let good = w .kept h e in
-      true-both (couldBeRead h) (not (isReason (firstMiss (placeOf s) h))) (could-be-read-exactly (s .channel) h .1 (good .0))
-      (ap (λ (r : Reason). not (isReason r)) (tests-exactly (placeOf s) h reason.NoReason .1 (good .1)))
+      true-both (couldBeRead h) (isPassed (firstMiss (placeOf s) h)) (could-be-read-exactly (s .channel) h .1 (good .0))
+      (ap isPassed (tests-exactly (placeOf s) h tested.Passed .1 (good .1)))
 
   from-words : Clauses s
   from-words =

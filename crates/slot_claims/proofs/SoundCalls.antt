@@ -5,27 +5,29 @@ use mathlib.Core.Bool.{Bool, true, false, false≢true, not, _&&_, _||_, cond, o
 use borrow.Author.Tests.{eqb-true, eq-eqb, not-false}
 use Rattle.refusal.specs.Refusal.{first, numbered}
 use Rattle.refusal.proofs.FirstLaws.{first-skip, first-end, first-zero, if-accepted, not-refused}
-use Rattle.checksum.specs.Channel.{channelOf, numberOf}
-use Rattle.header.specs.declared.Slot.{Slot}
-use Rattle.header.specs.declared.Cycle.{Cycle}
+use Rattle.base_types.specs.Channel.{channelOf, numberOf}
+use Rattle.base_types.specs.declared.id.Slot.{Slot}
+use Rattle.base_types.specs.declared.cycle.Cycle.{Cycle}
 use Rattle.header.specs.declared.Header.{Header}
 use Rattle.frame.specs.Read.{headerRead, refusalsOn}
 use Rattle.settings.specs.declared.Settings.{Settings}
 use Rattle.settings.specs.Sheet.{firstOutside}
+use Rattle.slot.specs.declared.status.Tested.{Tested}
+use Rattle.slot.specs.declared.status.Tested.the-variants as tested
 use Rattle.slot.specs.declared.status.Reason.the-variants as reason
 use Rattle.slot.specs.declared.status.Kept.the-variants as kept
 use Rattle.slot.specs.declared.status.Status.{Status}
-use Rattle.slot.specs.Judging.{Place, placeOf, placeBy, fresh, noStatus, firstMiss, isReason, isFrame, hasArrival}
+use Rattle.slot.specs.Judging.{Place, placeOf, placeBy, fresh, noStatus, firstMiss, isPassed, reasonBy, isReason, isFrame, hasArrival}
 use Rattle.slot.specs.Opening.{openingRefusals, Told}
 use Rattle.slot.specs.Sound.{couldBeRead, keepsWell, sound}
 use Rattle.slot_events.specs.Effect.{Event, Brought, arrival, boundaryActivity, ownSending, keptBy, isRefused, ofArrival, brings, joined, after}
 use Rattle.slot_events.specs.Events.{eventRefusals}
-use Rattle.checksum.proofs.ChannelLaws.{is-a-channel}
+use Rattle.base_types.proofs.ChannelLaws.{is-a-channel}
 use Rattle.slot_claims.specs.Sound.{NoStatusUnsound, OpenedSound, EventSound}
-use Rattle.numbers.proofs.Truth.{true-both, true-left}
+use Rattle.numbers.proofs.Truth.{true-both}
 use Rattle.numbers.proofs.Walk.{cases-in}
 use Rattle.slot_claims.proofs.Readable.{read-could}
-use Rattle.slot_claims.proofs.Sound.{clauses, clauses-sound}
+use Rattle.slot.proofs.SoundLaws.{clauses, clauses-sound}
 
 pub no-status-unsound : NoStatusUnsound
 unfolding first firstOutside
@@ -54,23 +56,20 @@ pub record Fits (p : Place) (b : Brought) : Type 0 where
   -- no event is both own sending and an arrival
   pub apart : b .sent && b .arrived ≡ false
 
-frame-fits : (p : Place) (h : Header) → couldBeRead h ≡ true → Fits p (ofArrival false (firstMiss p h) (keptBy (firstMiss p h) h))
-frame-fits p h could =
-    cases-in (λ b. Fits p (ofArrival false (firstMiss p h) (cond b kept.Nothing (kept.Frame h)))) (isReason (firstMiss p h))
-    (λ t. record { keeps = refl; one = true-left (isReason (firstMiss p h)) false t; apart = refl })
-    (λ t.
-    record {
-      keeps = true-both (couldBeRead h) (not (isReason (firstMiss p h))) could (ap not t);
-      one = or-true (isReason (firstMiss p h));
-      apart = refl;
-    })
+frame-fits : (p : Place) (h : Header) → couldBeRead h ≡ true → Fits p (ofArrival false (reasonBy (firstMiss p h)) (keptBy (firstMiss p h) h))
+frame-fits p h could = by (firstMiss p h) refl
+  where
+    by : (t : Tested) → firstMiss p h ≡ t → Fits p (ofArrival false (reasonBy t) (keptBy t h))
+    by tested.Passed e =
+        record { keeps = true-both (couldBeRead h) (isPassed (firstMiss p h)) could (ap isPassed e); one = refl; apart = refl }
+    by (tested.Missed miss) e = record { keeps = refl; one = refl; apart = refl }
 
 pub fits : (p : Place) (e : Event) → Fits p (brings p e)
 fits p boundaryActivity = record { keeps = refl; one = refl; apart = refl }
 fits p ownSending = record { keeps = refl; one = refl; apart = refl }
 fits p (arrival bytes) =
     let h = headerRead bytes in
-    cases-in (λ b. Fits p (cond b (ofArrival true reason.NoReason kept.Nothing) (ofArrival false (firstMiss p h) (keptBy (firstMiss p h) h))))
+    cases-in (λ b. Fits p (cond b (ofArrival true reason.NoReason kept.Nothing) (ofArrival false (reasonBy (firstMiss p h)) (keptBy (firstMiss p h) h))))
     (isRefused (p .channel) bytes)
     (λ t. record { keeps = refl; one = refl; apart = refl })
     (λ t. frame-fits p h (read-could (p .channel) bytes (eqb-true (first (refusalsOn (p .channel) bytes)) 0 (not-false _ t))))

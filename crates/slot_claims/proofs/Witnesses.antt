@@ -11,8 +11,8 @@ use lib.Seq.{take-all, drop-drop}
 use Rattle.numbers.proofs.Walk.{cases}
 use Rattle.refusal.specs.Refusal.{first}
 use Rattle.refusal.proofs.FirstLaws.{if-accepted}
-use Rattle.header.specs.declared.Slot.{Slot}
-use Rattle.header.specs.declared.Cycle.{Cycle}
+use Rattle.base_types.specs.declared.id.Slot.{Slot}
+use Rattle.base_types.specs.declared.cycle.Cycle.{Cycle}
 use Rattle.settings.specs.declared.Settings.{Settings}
 use Rattle.slot.specs.declared.status.Status.{Status}
 use Rattle.slot.specs.declared.opening.Opened.{Opened}
@@ -23,11 +23,11 @@ use Rattle.slot_events.specs.declared.Judged.{Judged}
 use Rattle.slot_events.specs.Effect.{Event, after}
 use Rattle.slot_events.specs.Events.{eventRefusals, leftBy, EventSays}
 use Rattle.slot_events.proofs.EventLaws as laws
-use Rattle.slot_claims.specs.Sheet.{TypedSettings, FieldTold}
+use Rattle.settings_claims.specs.Sheet.{TypedSettings, FieldTold}
 use Rattle.slot_claims.specs.Histories.{Calls}
 use Rattle.slot_claims.specs.Witnesses.{OpenedWell, JudgedWell, Played}
 use Rattle.slot_claims.proofs.Answers.{open-in-order, open-refused, event-in-order, event-refused}
-use Rattle.slot_claims.proofs.Sheet.{sheets}
+use Rattle.settings_claims.proofs.Sheet.{sheets}
 use Rattle.slot_claims.proofs.SoundCalls.{no-status-unsound, opened-sound, event-sound}
 use Rattle.slot_claims.proofs.Histories.{histories}
 

@@ -4,8 +4,8 @@
 use Prim.Native.Nat.{ℕ}
 use mathlib.Core.Path.{_≡_}
 use Rattle.refusal.specs.Refusal.{InOrder}
-use Rattle.header.specs.declared.Slot.{Slot}
-use Rattle.header.specs.declared.Cycle.{Cycle}
+use Rattle.base_types.specs.declared.id.Slot.{Slot}
+use Rattle.base_types.specs.declared.cycle.Cycle.{Cycle}
 use Rattle.settings.specs.declared.Settings.{Settings}
 use Rattle.slot.specs.declared.status.Status.{Status}
 use Rattle.slot.specs.declared.opening.Opened.{Opened}

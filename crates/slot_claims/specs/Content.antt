@@ -1,4 +1,4 @@
--- Claims about tests (a) to (e), in words: which reason is given for which frame. 01: "tested in this order, the first miss giving a
+-- Claims about tests (a) to (e), in words: which test a frame misses first, if any. 01: "tested in this order, the first miss giving a
 -- content reason".
 use Prim.Native.Nat.{_<_, _≤_}
 use mathlib.Core.Path.{_≡_}
@@ -6,8 +6,9 @@ use mathlib.Core.Bool.{true, false}
 use mathlib.Core.Logic.{_⊎_, _↔_}
 use Rattle.header.specs.declared.Header.{Header}
 use Rattle.settings.specs.Sheet.{staticPayloadWords, staticSlots}
-use Rattle.slot.specs.declared.status.Reason.{Reason}
-use Rattle.slot.specs.declared.status.Reason.the-variants.{NoReason, OtherId, OtherCycle, OtherWords, SyncOrStartup, NullFrame}
+use Rattle.slot.specs.declared.status.Miss.the-variants.{OtherId, OtherCycle, OtherWords, SyncOrStartup, NullFrame}
+use Rattle.slot.specs.declared.status.Tested.{Tested}
+use Rattle.slot.specs.declared.status.Tested.the-variants.{Passed, Missed}
 use Rattle.slot.specs.Judging.{Place, firstMiss}
 
 -- "static if slot is at most field 11"; any other slot is dynamic.
@@ -35,15 +36,15 @@ pub record Passes (p : Place) (h : Header) : Type 0 where
   -- "dynamic: not a null frame", in which the bit would be 0.
   pub e : Dynamic p → h .«null_frame_bit» ≡ true
 
--- The test behind this reason is the first that the frame misses; without a reason it passes all.
-abbrev pub FirstMissed : Place → Header → Reason → Type 0
-FirstMissed p h NoReason = Passes p h
-FirstMissed p h OtherId = SameId p h → ⊥
-FirstMissed p h OtherCycle = SameId p h × (SameCycle p h → ⊥)
-FirstMissed p h OtherWords = SameId p h × SameCycle p h × Static p × (h .words ≡ staticPayloadWords (p .settings) → ⊥)
-FirstMissed p h SyncOrStartup = SameId p h × SameCycle p h × Dynamic p × ((h .sync ≡ true) ⊎ (h .startup ≡ true))
-FirstMissed p h NullFrame = SameId p h × SameCycle p h × Dynamic p × (h .sync ≡ false) × (h .startup ≡ false) × (h .«null_frame_bit» ≡ false)
+-- The frame passes all tests, or this is the first that it misses.
+abbrev pub FirstMissed : Place → Header → Tested → Type 0
+FirstMissed p h Passed = Passes p h
+FirstMissed p h (Missed OtherId) = SameId p h → ⊥
+FirstMissed p h (Missed OtherCycle) = SameId p h × (SameCycle p h → ⊥)
+FirstMissed p h (Missed OtherWords) = SameId p h × SameCycle p h × Static p × (h .words ≡ staticPayloadWords (p .settings) → ⊥)
+FirstMissed p h (Missed SyncOrStartup) = SameId p h × SameCycle p h × Dynamic p × ((h .sync ≡ true) ⊎ (h .startup ≡ true))
+FirstMissed p h (Missed NullFrame) = SameId p h × SameCycle p h × Dynamic p × (h .sync ≡ false) × (h .startup ≡ false) × (h .«null_frame_bit» ≡ false)
 
--- The rule gives each frame the reason that belongs to it.
+-- The rule gives what the tests give.
 abbrev pub TestsExactly : Type 0
-TestsExactly = (p : Place) (h : Header) (reason : Reason) → (firstMiss p h ≡ reason) ↔ FirstMissed p h reason
+TestsExactly = (p : Place) (h : Header) (tested : Tested) → (firstMiss p h ≡ tested) ↔ FirstMissed p h tested

@@ -4,16 +4,17 @@
 use Prim.Native.Nat.{ℕ}
 use mathlib.Core.Path.{_≡_}
 use mathlib.Core.Bool.{true}
-use mathlib.Core.List.{List, [], _∷_, _++_, List·Memᴰ}
+use mathlib.Core.List.{List, [], _∷_, _++_}
 use mathlib.Core.Logic.{_↔_}
-use Rattle.header.specs.declared.Slot.{Slot}
-use Rattle.header.specs.declared.Cycle.{Cycle}
+use Rattle.base_types.specs.declared.id.Slot.{Slot}
+use Rattle.base_types.specs.declared.cycle.Cycle.{Cycle}
 use Rattle.header.specs.declared.Header.{Header}
 use Rattle.frame.specs.declared.Reading.the-variants.{Accepted}
 use Rattle.frame.specs.Read.{ReadOnSays}
 use Rattle.settings.specs.declared.Settings.{Settings}
-use Rattle.slot.specs.declared.status.Reason.{Reason}
-use Rattle.slot.specs.declared.status.Reason.the-variants.{NoReason}
+use Rattle.slot.specs.declared.status.Miss.{Miss}
+use Rattle.slot.specs.declared.status.Tested.the-variants as tested
+use Rattle.slot.specs.declared.status.Reason.the-variants.{Missed}
 use Rattle.slot.specs.declared.status.Kept.the-variants.{Frame}
 use Rattle.slot.specs.declared.status.Status.{Status}
 use Rattle.slot.specs.declared.opening.Opened.{Opened}
@@ -37,9 +38,9 @@ abbrev pub ArrivesRefused : Place → Event → Type 0
 ArrivesRefused p e = (bytes : List ℕ) × (e ≡ arrival bytes) × ((h : Header) → ReadOnSays (p .channel) bytes (Accepted h) → ⊥)
 
 -- A frame arrived whose first miss is this one.
-abbrev pub ArrivesMissing : Place → Reason → Event → Type 0
-ArrivesMissing p reason e =
-    (bytes : List ℕ) × (e ≡ arrival bytes) × (h : Header) × ReadOnSays (p .channel) bytes (Accepted h) × FirstMissed p h reason × (reason ≡ NoReason → ⊥)
+abbrev pub ArrivesMissing : Place → Miss → Event → Type 0
+ArrivesMissing p miss e =
+    (bytes : List ℕ) × (e ≡ arrival bytes) × (h : Header) × ReadOnSays (p .channel) bytes (Accepted h) × FirstMissed p h (tested.Missed miss)
 
 -- A frame with this header arrived that passes all tests.
 abbrev pub ArrivesPassing : Place → Header → Event → Type 0
@@ -47,46 +48,50 @@ ArrivesPassing p h e = (bytes : List ℕ) × (e ≡ arrival bytes) × ReadOnSays
 
 -- A frame arrived that misses some test, or passes all.
 abbrev pub Misses : Place → Event → Type 0
-Misses p e = (reason : Reason) × ArrivesMissing p reason e
+Misses p e = (miss : Miss) × ArrivesMissing p miss e
 
 abbrev pub PassesAll : Place → Event → Type 0
 PassesAll p e = (h : Header) × ArrivesPassing p h e
 
 -- ---- many events
 
--- This event is among them.
-abbrev pub Occurs : Event → List Event → Type 0
-Occurs e events = List·Memᴰ e events
+-- What is said of an event may depend on the events before it. This holds of it whatever they were.
+abbrev pub AnyTime : (Event → Type 0) → List Event → Event → Type 0
+AnyTime P before e = P e
 
--- Of some event this holds.
-abbrev pub Some : (Event → Type 0) → List Event → Type 0
-Some P events = (e : Event) × Occurs e events × P e
+-- Of some event this holds, given those before it.
+abbrev pub Some : (List Event → Event → Type 0) → List Event → Type 0
+Some P events = (before : List Event) × (e : Event) × (after : List Event) × (events ≡ before ++ (e ∷ after)) × P before e
 
--- This event is the first of which it holds.
-pub record First (P : Event → Type 0) (events : List Event) (e : Event) : Type 0 where
-  pub before : List Event
+-- This event, with these before it, is the first of which it holds.
+pub record First (P : List Event → Event → Type 0) (events before : List Event) (e : Event) : Type 0 where
   pub after : List Event
   pub parts : events ≡ before ++ (e ∷ after)
-  pub holds : P e
+  pub holds : P before e
   pub earlier : Some P before → ⊥
+
+-- This event is among them.
+abbrev pub Occurs : Event → List Event → Type 0
+Occurs e events = Some (AnyTime (λ x. x ≡ e)) events
 
 -- 01's sentences over all events of a slot that was opened so.
 pub record History (p : Place) (events : List Event) (s : Status) : Type 0 where
   pub place : placeOf s ≡ p
   -- Syntax error exactly when some arrival was refused.
-  pub syntax : (s .«syntax_error» ≡ true) ↔ Some (ArrivesRefused p) events
+  pub syntax : (s .«syntax_error» ≡ true) ↔ Some (AnyTime (ArrivesRefused p)) events
   -- Content error exactly when some frame missed a test, and the reason is that of the first such.
-  pub content : (s .«content_error» ≡ true) ↔ Some (Misses p) events
-  pub reason : (reason : Reason) → (reason ≡ NoReason → ⊥)
-      → (s .reason ≡ reason) ↔ ((e : Event) × First (Misses p) events e × ArrivesMissing p reason e)
+  pub content : (s .«content_error» ≡ true) ↔ Some (AnyTime (Misses p)) events
+  pub reason : (miss : Miss)
+      → (s .reason ≡ Missed miss) ↔ ((before : List Event) × (e : Event) × First (AnyTime (Misses p)) events before e × ArrivesMissing p miss e)
   -- Valid exactly when some frame passed all tests, and the kept header is that of the first such.
-  pub valid : (s .valid ≡ true) ↔ Some (PassesAll p) events
-  pub kept : (h : Header) → (s .kept ≡ Frame h) ↔ ((e : Event) × First (PassesAll p) events e × ArrivesPassing p h e)
+  pub valid : (s .valid ≡ true) ↔ Some (AnyTime (PassesAll p)) events
+  pub kept : (h : Header)
+      → (s .kept ≡ Frame h) ↔ ((before : List Event) × (e : Event) × First (AnyTime (PassesAll p)) events before e × ArrivesPassing p h e)
   -- Boundary violation exactly when there was boundary activity.
   pub boundary : (s .«boundary_violation» ≡ true) ↔ Occurs boundaryActivity events
   -- Own sending exactly when it occurred, and conflict exactly when own sending and an arrival both did, in whatever order.
   pub sending : (s .«own_sending» ≡ true) ↔ Occurs ownSending events
-  pub conflict : (s .conflict ≡ true) ↔ Occurs ownSending events × Some Arrives events
+  pub conflict : (s .conflict ≡ true) ↔ Occurs ownSending events × Some (AnyTime Arrives) events
 
 -- A history leaves one status.
 abbrev pub HistoryOne : Type 0

@@ -1,5 +1,5 @@
 pub mod Answers
-pub mod Sheet
+pub mod Typed
 pub mod Content
 pub mod Sound
 pub mod Histories

@@ -6,8 +6,8 @@ use mathlib.Core.List.{List, [], _∷_}
 use lib.Dec.{eqb}
 use lib.ListN.{take, drop}
 use Rattle.refusal.specs.Refusal.{first, InOrder}
-use Rattle.header.specs.declared.Slot.{Slot}
-use Rattle.header.specs.declared.Cycle.{Cycle}
+use Rattle.base_types.specs.declared.id.Slot.{Slot}
+use Rattle.base_types.specs.declared.cycle.Cycle.{Cycle}
 use Rattle.settings.specs.declared.Settings.{Settings}
 use Rattle.slot.specs.declared.status.Status.{Status}
 use Rattle.slot.specs.declared.opening.Opened.{Opened}
@@ -19,7 +19,7 @@ use Rattle.slot_events.specs.declared.Judged.{Judged}
 use Rattle.slot_events.specs.Effect.{Event, arrival, boundaryActivity, ownSending, after}
 use Rattle.slot_events.specs.Events as event
 use Rattle.slot_events.specs.Events.{eventRefusals}
-use Rattle.slot_claims.specs.Sheet.{FieldTold}
+use Rattle.settings_claims.specs.Sheet.{FieldTold}
 use Rattle.slot_claims.specs.Histories.{History}
 
 -- `opened`: the number comes in 01's order, and the field is the first out of range; a slot that is opened has a fresh status, which is

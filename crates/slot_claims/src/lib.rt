@@ -8,8 +8,8 @@ ghost use Rattle.slot_events.specs.Effect.{arrival, boundaryActivity, ownSendin
 ghost use Rattle.slot_events.specs.Events.{leftBy};
 ghost use Rattle.slot_claims.specs.Sound.{SoundStatus};
 ghost use Rattle.slot_claims.specs.Witnesses.{OpenedWell, JudgedWell, eventOf, eventsOf, Played};
-use header::Cycle;
-use header::Slot;
+use base_types::Cycle;
+use base_types::Slot;
 use settings::Settings;
 use slot::Opened;
 use slot::Status;

@@ -6,7 +6,7 @@ use mathlib.Core.List.{List}
 use borrow.Author.Tests.{eq-eqb, ne-eqb, not-true, not-false}
 use Rattle.refusal.specs.Refusal.{first, ifAccepted}
 use Rattle.refusal.proofs.FirstLaws.{start, passed, first-at, first-none-left, if-accepted}
-use Rattle.checksum.specs.declared.Channel.{Channel}
+use Rattle.base_types.specs.declared.channel.Channel.{Channel}
 use Rattle.header.specs.declared.Header.{Header}
 use Rattle.header.specs.Layout.{noHeader}
 use Rattle.frame.specs.declared.Reading.{Reading}
@@ -18,7 +18,7 @@ use Rattle.slot.specs.declared.status.Reason.the-variants as reason
 use Rattle.slot.specs.declared.status.Kept.{Kept}
 use Rattle.slot.specs.declared.status.Kept.the-variants as kept
 use Rattle.slot.specs.declared.status.Status.{Status}
-use Rattle.slot.specs.Judging.{Place, firstMiss, firstReason, firstKept}
+use Rattle.slot.specs.Judging.{Place, firstMiss, reasonBy, firstReason, firstKept}
 use Rattle.slot.specs.Sound.{sound}
 use Rattle.slot_events.specs.declared.Recording.the-variants as recording
 use Rattle.slot_events.specs.declared.Judged.{Judged}
@@ -29,11 +29,7 @@ use Rattle.slot_events.specs.Events.{eventRefusals, EventSays}
 
 pub first-reason-none : (r : Reason) → firstReason r reason.NoReason ≡ r
 first-reason-none reason.NoReason = refl
-first-reason-none reason.OtherId = refl
-first-reason-none reason.OtherCycle = refl
-first-reason-none reason.OtherWords = refl
-first-reason-none reason.SyncOrStartup = refl
-first-reason-none reason.NullFrame = refl
+first-reason-none (reason.Missed miss) = refl
 
 pub first-kept-none : (k : Kept) → firstKept k kept.Nothing ≡ k
 first-kept-none kept.Nothing = refl
@@ -62,7 +58,7 @@ accepted-none channel bytes h says =
     )
 
 pub brings-frame : (p : Place) (bytes : List ℕ) (h : Header) → ReadOnSays (p .channel) bytes (reading.Accepted h)
-    → brings p (arrival bytes) ≡ ofArrival false (firstMiss p h) (keptBy (firstMiss p h) h)
+    → brings p (arrival bytes) ≡ ofArrival false (reasonBy (firstMiss p h)) (keptBy (firstMiss p h) h)
 brings-frame p bytes h says =
     let a = accepted-none (p .channel) bytes h says in
     let accepted : isRefused (p .channel) bytes ≡ false = ap not (eq-eqb (first (refusalsOn (p .channel) bytes)) 0 (a .0)) in

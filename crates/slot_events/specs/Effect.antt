@@ -4,15 +4,16 @@ use mathlib.Core.Bool.{Bool, true, false, not, _&&_, _||_, cond}
 use mathlib.Core.List.{List}
 use lib.Dec.{eqb}
 use Rattle.refusal.specs.Refusal.{first}
-use Rattle.checksum.specs.declared.Channel.{Channel}
+use Rattle.base_types.specs.declared.channel.Channel.{Channel}
 use Rattle.header.specs.declared.Header.{Header}
 use Rattle.frame.specs.Read.{headerRead, refusalsOn}
+use Rattle.slot.specs.declared.status.Tested.{Tested}
 use Rattle.slot.specs.declared.status.Reason.{Reason}
 use Rattle.slot.specs.declared.status.Reason.the-variants.{NoReason}
 use Rattle.slot.specs.declared.status.Kept.{Kept}
 use Rattle.slot.specs.declared.status.Kept.the-variants.{Nothing, Frame}
 use Rattle.slot.specs.declared.status.Status.{Status}
-use Rattle.slot.specs.Judging.{Place, placeOf, firstMiss, isReason, isFrame, firstReason, firstKept, hasArrival}
+use Rattle.slot.specs.Judging.{Place, placeOf, firstMiss, isPassed, reasonBy, isReason, isFrame, firstReason, firstKept, hasArrival}
 
 -- ---- an event
 
@@ -28,7 +29,7 @@ pub record Brought : Type 0 where
   pub arrived : Bool
   -- Reading them on the slot's channel refuses them.
   pub refused : Bool
-  -- The first test that the frame misses, and the header of one that misses none.
+  -- The reason that a frame gives, and the header of one that passes all tests.
   pub reason : Reason
   pub kept : Kept
   -- Activity at a boundary.
@@ -46,14 +47,14 @@ abbrev pub isRefused : Channel → List ℕ → Bool
 isRefused channel bytes = not (eqb (first (refusalsOn channel bytes)) 0)
 
 -- "No miss: .. header fields are kept".
-abbrev pub keptBy : Reason → Header → Kept
-keptBy reason h = cond (isReason reason) Nothing (Frame h)
+abbrev pub keptBy : Tested → Header → Kept
+keptBy tested h = cond (isPassed tested) (Frame h) Nothing
 
 -- What an event brings in a slot that was opened so.
 abbrev pub brings : Place → Event → Brought
 brings p (arrival bytes) =
     cond (isRefused (p .channel) bytes) (ofArrival true NoReason Nothing)
-    (ofArrival false (firstMiss p (headerRead bytes)) (keptBy (firstMiss p (headerRead bytes)) (headerRead bytes)))
+    (ofArrival false (reasonBy (firstMiss p (headerRead bytes))) (keptBy (firstMiss p (headerRead bytes)) (headerRead bytes)))
 brings p boundaryActivity = record { arrived = false; refused = false; reason = NoReason; kept = Nothing; atBoundary = true; sent = false }
 brings p ownSending = record { arrived = false; refused = false; reason = NoReason; kept = Nothing; atBoundary = false; sent = true }
 

@@ -12,6 +12,7 @@ use header::Header;
 use slot::Kept;
 use slot::Reason;
 use slot::Status;
+use slot::Tested;
 
 // What an event answers: that it is recorded, or that the status is not sound.
 pub enum Recording {
@@ -50,9 +51,9 @@ pub fn arrived(status: Status, bytes: &[u8]) -> Judged
         next.syntax_error = true;
         return recorded(next);
     };
-    let reason = slot::first_miss(status, header);
-    let kept = kept_by(reason, header);
-    recorded(with_arrival(status, reason, kept))
+    let tested = slot::first_miss(status, header);
+    let kept = kept_by(tested, header);
+    recorded(with_arrival(status, tested.reason(), kept))
 }
 
 // Activity at a boundary of the slot.
@@ -99,18 +100,18 @@ fn not_sound(handed_in: Status) -> Judged
     }
 }
 
-// The frame to keep: one that missed no test.
-fn kept_by(reason: Reason, header: Header) -> Kept
-    ensures { λ r. ⌜ r ≡ keptBy reason header ⌝ }
+// The frame to keep: one that passes all tests.
+fn kept_by(tested: Tested, header: Header) -> Kept
+    ensures { λ r. ⌜ r ≡ keptBy tested header ⌝ }
 {
-    if reason.is_reason() {
+    if !tested.is_passed() {
         return Kept::Nothing;
     }
     Kept::Frame(header)
 }
 
-// The status after an arrival, by the first test that it misses and by the frame to keep. Of an arrival that is refused only the
-// syntax error is still to be set.
+// The status after an arrival, by the reason that it gives and by the frame to keep. Of an arrival that is refused only the syntax
+// error is still to be set.
 fn with_arrival(status: Status, reason: Reason, kept: Kept) -> Status
     ensures { λ r. ⌜ r ≡ joined status (ofArrival false reason kept) ⌝ }
 {

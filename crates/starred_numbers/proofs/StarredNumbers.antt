@@ -2,7 +2,7 @@
 use mathlib.Core.Path.{refl}
 use Rattle.division.specs.Bits.{bits, number, bytesOf}
 use Rattle.division.specs.Division.{step, feed, checksum, exor, onlyIf}
-use Rattle.checksum.specs.Channel.{notAChannel}
+use Rattle.base_types.specs.Channel.{notAChannel}
 use Rattle.writing.specs.Write.{headerAndPayload}
 use Rattle.refusal.specs.Refusal.{first}
 use Rattle.midpoint.specs.Midpoint.{insert, sort, midpoint}

@@ -9,8 +9,8 @@ use lib.Dec.{eqb, leb, ltb}
 use lib.ListN.{List·getD-eq-default, drop, drop-of-length-le, getD, length, length-map, length-take, set, take}
 use lib.Seq.{drop-cons, getD-take, length-take-le, split-at, take-all, take-suc}
 use Rattle.numbers.proofs.Walk.{cases}
-use Rattle.checksum.specs.declared.Channel.{Channel}
-use Rattle.header.specs.declared.Slot.{Slot}
+use Rattle.base_types.specs.declared.channel.Channel.{Channel}
+use Rattle.base_types.specs.declared.id.Slot.{Slot}
 use Rattle.sync_list.specs.declared.list.SyncList.{SyncList}
 use Rattle.sync_list.specs.declared.row.Measurement.{Measurement}
 use Rattle.sync_list.specs.declared.row.Row.{Row}

@@ -1,8 +1,8 @@
 -- A row: an ID, and what was measured of it on each channel.
 use mathlib.Core.Bool.{Bool, true, false}
-use Rattle.checksum.specs.declared.Channel.{Channel}
-use Rattle.checksum.specs.declared.Channel.the-variants.{A, B}
-use Rattle.header.specs.declared.Slot.{Slot}
+use Rattle.base_types.specs.declared.channel.Channel.{Channel}
+use Rattle.base_types.specs.declared.channel.Channel.the-variants.{A, B}
+use Rattle.base_types.specs.declared.id.Slot.{Slot}
 use Rattle.correction.specs.declared.value.Value.{Value}
 use Rattle.correction.specs.declared.value.Value.the-variants as value
 use Rattle.correction.specs.declared.value.Deviations.{Deviations}

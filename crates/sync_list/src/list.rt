@@ -5,8 +5,8 @@ ghost use Rattle.sync_list.specs.Rows.{blank};
 ghost use Rattle.sync_list.specs.Lists.{rowCount, empty as Lists·empty, listed as Lists·listed, listedCount, placeOf, isMeasuredOn, isFullFor, recorded};
 use crate::row::Measurement;
 use crate::row::Row;
-use checksum::Channel;
-use header::Slot;
+use base_types::Channel;
+use base_types::Slot;
 
 // How many rows there is room for.
 pub const ROWS: usize = correction::MOST_IDS;
@@ -88,7 +88,7 @@ impl SyncList {
     }
 
     // The list with a measurement: in the row of its ID, or in a new one, which is the last. A list whose rows are all listed takes
-    // no new ID: below the limit of 15 there is room.
+    // no new ID: below the limit there is room.
     pub fn with(self, id: Slot, channel: Channel, measurement: Measurement) -> SyncList
         ensures { λ r. ⌜ r ≡ recorded id channel measurement self ⌝ }
     {

@@ -1,11 +1,11 @@
 // A row: an ID, and what was measured of it on each channel.
 ghost use mathlib.Core.Path.{_≡_};
 ghost use Rattle.sync_list.specs.Rows.{isMeasured, valueOf, blank as Rows·blank, on as Rows·on, withMeasured, deviationsOf};
-use checksum::Channel;
+use base_types::Channel;
+use base_types::SignedMicrotick;
+use base_types::Slot;
 use correction::Deviations;
-use correction::SignedMicrotick;
 use correction::Value;
-use header::Slot;
 
 pub struct Measurement {
     pub deviation: SignedMicrotick,

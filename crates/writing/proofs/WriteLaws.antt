@@ -11,11 +11,11 @@ use Rattle.numbers.proofs.Truth.{neither}
 use Rattle.refusal.specs.Refusal.{ifAccepted}
 use Rattle.division.specs.Bits.{odd, bits, bytesOf}
 use Rattle.division.proofs.BytesLaws.{length-bytes-of}
-use Rattle.checksum.specs.declared.Channel.{Channel}
-use Rattle.checksum.specs.Channel.{channelOf}
+use Rattle.base_types.specs.declared.channel.Channel.{Channel}
+use Rattle.base_types.specs.Channel.{channelOf}
 use Rattle.checksum.specs.Checksums.{frameChecksum}
 use Rattle.header.specs.declared.Fields.{Fields}
-use Rattle.header.specs.Layout.{wholeHeader}
+use Rattle.header.specs.Layout.{mostPayload, wholeHeader}
 use Rattle.writing.specs.declared.Writing.{Writing}
 use Rattle.writing.specs.declared.Writing.the-variants.{Written}
 use Rattle.writing.specs.Refusals.{badPayload}
@@ -63,6 +63,6 @@ write-accepted channel fields payload output after size e s w =
       writes = w ∙ ap (λ (k : ℕ). ifAccepted k (over (frameBytes (channelOf channel) fields payload) output) output) (sym e);
     }
 
--- a payload that is not refused has at most 254 bytes
-pub payload-at-most : (payload : List ℕ) → badPayload payload ≡ false → length payload ≤ 254
-payload-at-most payload e = ltb-false 254 (length payload) (neither (odd (length payload)) _ e .1)
+-- a payload that is not refused is not above the longest
+pub payload-at-most : (payload : List ℕ) → badPayload payload ≡ false → length payload ≤ mostPayload
+payload-at-most payload e = ltb-false mostPayload (length payload) (neither (odd (length payload)) _ e .1)

@@ -1,15 +1,16 @@
--- The conditions behind the refusals of writing, each alone (01, "Refusal numbers": "given exactly when"), but for 7, 9 and 11, which are
--- in the crate `header`, and for 1, which is `notAChannel` of the crate `checksum`.
+-- The conditions behind the refusals of writing, each alone (01, "Refusal numbers": "given exactly when"), but for 7, which is in the
+-- crate `header`, and for 1, 9 and 11, which are in the crate `base_types`.
 use Prim.Native.Nat.{ℕ, _+_}
 use mathlib.Core.Bool.{Bool, _||_}
 use mathlib.Core.List.{List}
 use lib.Dec.{ltb}
 use lib.ListN.{length}
 use Rattle.division.specs.Bits.{odd}
+use Rattle.header.specs.Layout.{mostPayload}
 
 -- 10: "payload to write is odd or above 254 bytes".
 abbrev pub badPayload : List ℕ → Bool
-badPayload payload = odd (length payload) || ltb 254 (length payload)
+badPayload payload = odd (length payload) || ltb mostPayload (length payload)
 
 -- 12, "reserved bit to write is 1", is the bit itself.
 

@@ -5,13 +5,15 @@ use mathlib.Core.List.{List, [], _∷_, _++_}
 use lib.ListN.{length}
 use Rattle.refusal.specs.Refusal.{Line, _when_, first, ifAccepted}
 use Rattle.division.specs.Bits.{bits, bytesOf}
-use Rattle.checksum.specs.declared.Channel.{Channel}
-use Rattle.checksum.specs.Channel.{notAChannel, channelOf}
+use Rattle.base_types.specs.declared.channel.Channel.{Channel}
+use Rattle.base_types.specs.Channel.{notAChannel, channelOf}
 use Rattle.checksum.specs.Checksums.{headerChecksum, frameChecksum}
 use Rattle.header.specs.declared.Header.{Header}
 use Rattle.header.specs.declared.Fields.{Fields}
 use Rattle.header.specs.Layout.{wholeHeader}
-use Rattle.header.specs.Refusals.{notAnId, cycleTooHigh, startupWithoutSync}
+use Rattle.base_types.specs.Slot.{notAnId}
+use Rattle.base_types.specs.Cycle.{cycleTooHigh}
+use Rattle.header.specs.Refusals.{startupWithoutSync}
 use Rattle.lent_bytes.specs.Over.{over}
 use Rattle.writing.specs.declared.Writing.{Writing}
 use Rattle.writing.specs.declared.Writing.the-variants.{Written, NotAChannel, NotAnId, BadPayload, CycleTooHigh, StartupWithoutSync, ReservedSet, OutputTooShort}

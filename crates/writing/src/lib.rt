@@ -4,12 +4,13 @@
 ghost use mathlib.Core.Path.{_≡_};
 ghost use Prim.Native.Nat.{_+_, _*_, _≤_};
 ghost use lib.ListN.{length};
+ghost use Rattle.header.specs.Layout.{mostPayload};
 ghost use Rattle.writing.specs.Refusals.{badPayload};
 ghost use Rattle.lent_bytes.specs.Over.{over};
 ghost use Rattle.writing.specs.Write.{headerOf, frameBytes, told, WriteSays};
 ghost use Rattle.division.specs.Bits.{bits, bytesOf};
-use checksum::Channel;
-use checksum::Named;
+use base_types::Channel;
+use base_types::Named;
 use header::Fields;
 use header::Header;
 
@@ -73,8 +74,8 @@ pub fn write(channel: u8, fields: Fields, payload: &[u8], output: &mut [u8]) -> 
     if header::startup_without_sync(fields.startup, fields.sync) {
         return Writing::StartupWithoutSync;
     }
-    // Worked out before 12 is tried: a build that tries 13 before 12 then differs in the order alone, and it is the order that it is
-    // refused for.
+    // Worked out before 12 is tried (DECISIONS 70): a build that tries 13 before 12 then differs in the order alone, and is refused for
+    // it.
     let size = payload.len() + 8;
     if fields.reserved {
         return Writing::ReservedSet;
@@ -93,7 +94,7 @@ fn is_bad(payload: &[u8]) -> bool
     if payload.len() % 2 == 1 {
         return true;
     }
-    254 < payload.len()
+    Header::MOST_PAYLOAD < payload.len()
 }
 
 // The header with these fields, before a payload of this many words.
@@ -121,11 +122,11 @@ fn header_of(fields: Fields, words: u8) -> Header
 
 // Lays a frame over the front of the output: the header, the payload into the middle, and the trailer behind it.
 fn lay(channel: Channel, fields: Fields, payload: &[u8], output: &mut [u8])
-    requires { ⌜ (length (now payload) ≤ 254) × (8 + length (now payload) ≤ length (now output)) ⌝ }
+    requires { ⌜ (length (now payload) ≤ mostPayload) × (8 + length (now payload) ≤ length (now output)) ⌝ }
     ensures { λ _. ⌜ now (output .exit) ≡ over (frameBytes channel fields (now (payload .entry))) (now (output .entry)) ⌝ }
 {
     let words = (payload.len() / 2) as u8;
-    put_number(output, header::packed(header_of(fields, words)), 5);
+    lent_bytes::put_number(output, header::packed(header_of(fields, words)), 5);
     bytes::copy(payload, &mut output[5..]);
     let end = payload.len() + 5;
     let checksum = checksum::frame_checksum_on(channel, &output[0..end]);
@@ -137,18 +138,5 @@ fn put_trailer(output: &mut [u8], checksum: u32)
     requires { ⌜ 3 ≤ length (now output) ⌝ }
     ensures { λ _. ⌜ now (output .exit) ≡ over (bytesOf 3 (bits 24 checksum)) (now (output .entry)) ⌝ }
 {
-    put_number(output, checksum as u64, 3);
-}
-
-// Puts the `count` low bytes of a number at the front of what is lent, the most significant first.
-fn put_number(output: &mut [u8], number: u64, count: usize)
-    requires { ⌜ (count ≤ 8) × (count ≤ length (now output)) ⌝ }
-    ensures { λ _. ⌜ now (output .exit) ≡ over (bytesOf count (bits (8 * count) number)) (now (output .entry)) ⌝ }
-{
-    let mut i = 0;
-    while i < count {
-        let place = 8 * (count - 1 - i);
-        output[i] = ((number >> place) % 256) as u8;
-        i += 1;
-    }
+    lent_bytes::put_number(output, checksum as u64, 3);
 }

@@ -3,9 +3,9 @@ use borrow.Author.Needs.{needs}
 use mathlib.Core.Path.{_≡_, sym, _∙_}
 use mathlib.Core.Bool.{true, false}
 use Rattle.refusal.specs.Refusal.{first}
-use Rattle.checksum.specs.declared.Channel.{Channel}
-use Rattle.checksum.specs.Channel.{notAChannel, channelOf}
-use Rattle.checksum.proofs.ChannelLaws.{named-is, named-not}
+use Rattle.base_types.specs.declared.channel.Channel.{Channel}
+use Rattle.base_types.specs.Channel.{notAChannel, channelOf}
+use Rattle.base_types.proofs.ChannelLaws.{named-is, named-not}
 use Rattle.checksum.proofs.frame_checksum.Statement.{statement}
 use Rattle.checksum.proofs.frame_checksum.Tie as tie
 

@@ -3,7 +3,7 @@ use borrow.Author.Needs.{needs}
 use borrow.Author.Tests.{ne-eqb}
 use mathlib.Core.Path.{_≡_, sym, _∙_, ap}
 use denote.Ref.{now}
-use Rattle.checksum.specs.declared.Channel.the-variants.{A, B}
+use Rattle.base_types.specs.declared.channel.Channel.the-variants.{A, B}
 use Rattle.checksum.specs.Checksums.{frameChecksum}
 use Rattle.checksum.specs.FrameChecksum.{told}
 use Rattle.checksum_claims.proofs.Checksums.{channels-apart}

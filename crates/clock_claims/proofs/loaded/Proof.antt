@@ -2,7 +2,7 @@
 use borrow.Author.Needs.{needs}
 use Rattle.clock_claims.proofs.loaded.Statement.{statement}
 use Rattle.clock_claims.proofs.loaded.Tie as tie
-use Rattle.slot_claims.specs.Sheet.{TypedSettings}
+use Rattle.settings_claims.specs.Sheet.{TypedSettings}
 use Rattle.clock_claims.proofs.Witnesses.{loaded-well}
 
 returns : tie.Need-returns

@@ -4,10 +4,11 @@ use Rattle.closing.proofs.rate_found.Statement.{statement}
 use Rattle.closing.proofs.rate_found.Tie as tie
 use mathlib.Core.Path.{_≡_, sym, ap, _∙_}
 use borrow.Author.Tests.{not-true, not-false}
-use Rattle.clock.specs.State.{isOdd, currentCycle}
+use Rattle.base_types.specs.Cycle.{isOdd}
+use Rattle.clock.specs.State.{currentCycle}
 use Rattle.closing.proofs.RangeLaws.{rate-is-whole}
 use Rattle.settings.specs.Sheet.{driftDamping, rateLimit}
-use Rattle.correction.specs.Microtick.{held}
+use Rattle.base_types.specs.Microtick.{held}
 use Rattle.correction.specs.Terms.{rateTermBy}
 use Rattle.sync_list.specs.Lists.{listed}
 use Rattle.list_values.specs.Values.{rateValuesBy}

@@ -5,7 +5,7 @@ use Rattle.closing.proofs.report_of.Tie as tie
 use mathlib.Core.Path.{_≡_, ap, _∙_}
 use Rattle.settings.specs.Sheet.{externalOffsetUnit, externalRateUnit}
 use Rattle.correction.specs.External.{signOf, withExternal}
-use Rattle.header.specs.declared.Cycle.{Cycle}
+use Rattle.base_types.specs.declared.cycle.Cycle.{Cycle}
 use Rattle.clock.specs.State.{currentCycle, listOf}
 use Rattle.closing.specs.Closing.{offsetFound, rateFound}
 use Rattle.closing.proofs.RangeLaws.{offset-reported, rate-reported}

@@ -14,7 +14,7 @@ returns c =
     let s : tie.Start = search needs in
     let bytes = now (s .args .bytes) in
     let place = ptr (s .args .bytes) in
-    let says : told (c .before .read .result) ≡ rule (first (refusals (s .args .channel) bytes)) bytes = c .before .read .ensures in (
+    let says : told (c .before .read .result) ≡ rule (s .args .channel) bytes = c .before .read .ensures in (
       c .part .ensures .0 ∙ ap (λ (t : Told). partRule (t .number) bytes) says,
       c .part .ensures .1 ∙ ap (λ (t : Told). behind (partOffset (t .number) bytes) place) says
           ∙ ap (λ (k : ℕ). behind k place) (lies-from-5 (s .args .channel) bytes),

@@ -5,10 +5,10 @@ use mathlib.Core.Bool.{true}
 use denote.Ref.{now}
 use Rattle.refusal.specs.Refusal.{first}
 use Rattle.refusal.proofs.FirstLaws.{first-skip, first-here}
-use Rattle.checksum.specs.declared.Channel.{Channel}
-use Rattle.checksum.specs.Channel.{notAChannel}
-use Rattle.checksum.proofs.ChannelLaws.{named-is, named-not}
-use Rattle.frame.specs.Read.{told, refusalsOn, rule}
+use Rattle.base_types.specs.declared.channel.Channel.{Channel}
+use Rattle.base_types.specs.Channel.{notAChannel}
+use Rattle.base_types.proofs.ChannelLaws.{named-is, named-not}
+use Rattle.frame.specs.Read.{told, refusalsOn, tells, ruleOn}
 use borrow.Author.Needs.{needs}
 use Rattle.frame.proofs.read.Statement.{statement}
 use Rattle.frame.proofs.read.Tie as tie
@@ -18,7 +18,7 @@ returns c =
     let s : tie.Start = search needs in
     let n : tie.After-named = search needs in
     let e : notAChannel (s .args .channel) ≡ true = named-not (s .args .channel) (sym (n .named .ensures) ∙ c .enum-told .given .1) in
-    ap (λ (n : ℕ). rule n (now (s .args .bytes))) (sym (first-here 1 _ e))
+    ap (λ (n : ℕ). tells n (now (s .args .bytes))) (sym (first-here 1 _ e))
 
 returns-2 : tie.Need-returns-2
 returns-2 c =
@@ -27,8 +27,8 @@ returns-2 c =
     let k : tie.After-named2 = search needs in
     let bytes = now (s .args .bytes) in
     let e = named-is (s .args .channel) (k .named2 .given .0 .0) (sym (n .named .ensures) ∙ k .named2 .given .1) in
-    let says : told (c .read-on .result) ≡ rule (first (refusalsOn (k .named2 .given .0 .0) bytes)) bytes = c .read-on .ensures in
-    says ∙ ap (λ (n : ℕ). rule n bytes) (ap (λ (k : Channel). first (refusalsOn k bytes)) (sym (e .1)) ∙ sym (first-skip 1 _ (e .0)))
+    let says : told (c .read-on .result) ≡ ruleOn (k .named2 .given .0 .0) bytes = c .read-on .ensures in
+    says ∙ ap (λ (n : ℕ). tells n bytes) (ap (λ (k : Channel). first (refusalsOn k bytes)) (sym (e .1)) ∙ sym (first-skip 1 _ (e .0)))
 
 pub read-spec : {M : Type 1} → statement M
 read-spec =

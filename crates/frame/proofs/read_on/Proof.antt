@@ -9,18 +9,20 @@ use lib.Dec.{ltb}
 use native.Mathlib.Nat.{sub-zero}
 use native.Mathlib.Omega.{arith}
 use lib.ListN.{length, take, drop, length-drop}
-use lib.Seq.{take-all}
+use lib.Seq.{length-take-le, take-all}
 use denote.Ref.{now}
 use Rattle.numbers.proofs.Truth.{true-left, true-right}
 use Rattle.refusal.specs.Refusal.{first}
 use Rattle.refusal.proofs.FirstLaws.{Past, start, _then_, passed, first-at, first-none-left}
-use Rattle.division.specs.Bits.{odd, bits, number, bytesBits}
+use Rattle.division.specs.Bits.{odd, bits}
+use Rattle.lent_bytes.specs.Putting.{numberIn}
+use Rattle.lent_bytes.proofs.NumberLaws.{number-in-all}
 use Rattle.checksum.specs.Checksums.{frameChecksum}
 use Rattle.header.specs.declared.Header.{Header}
-use Rattle.header.specs.Layout.{headerChecksumOf, headerIn}
+use Rattle.header.specs.Layout.{longestFrame, headerChecksumOf, headerIn}
 use Rattle.header.specs.Refusals.{startupWithoutSync}
 use Rattle.frame.specs.Refusals.{headerChecksumDiffers, wordsNotSize, idZero}
-use Rattle.frame.specs.Read.{headerRead, trailerRead, refusalsOn, rule}
+use Rattle.frame.specs.Read.{headerRead, trailerRead, refusalsOn, tells, ruleOn}
 use Rattle.frame.proofs.ReadLaws.{header-of-number}
 use Rattle.frame.proofs.read_on.Statement.{statement}
 use Rattle.frame.proofs.read_on.Tie as tie
@@ -36,7 +38,10 @@ entry c = search needs
 -- the header that was read is the bytes'
 header-is : (c : tie.After-unpacked) → c .unpacked .result ≡ headerRead (bytesIn (entry c))
 header-is c =
-    c .unpacked .ensures ∙ ap (λ (n : ℕ). headerIn (bits 40 n)) (c .before .number-of .ensures) ∙ header-of-number (bytesIn (entry c)) (omega arith)
+    let bytes = bytesIn (entry c) in
+    let five : length (take 5 bytes) ≡ 5 = length-take-le 5 bytes (omega arith) in
+    c .unpacked .ensures ∙ ap (λ (n : ℕ). headerIn (bits 40 n)) (c .before .number-in .ensures ∙ number-in-all (take 5 bytes) (omega arith))
+    ∙ header-of-number bytes (omega arith)
 
 of-header : (c : tie.After-unpacked) (f : Header → Bool) → f (headerRead (bytesIn (entry c))) ≡ f (c .unpacked .result)
 of-header c f = ap f (sym (header-is c))
@@ -51,12 +56,13 @@ tried7 : (c : tie.After-startup-without-sync) → let u : tie.After-unpacked = s
 tried7 c = c .startup-without-sync .ensures
 
 -- the trailer that was read is the bytes'
-trailer-is : (c : tie.After-number-of2) → c .number-of2 .result ≡ trailerRead (bytesIn (entry (search needs)))
+trailer-is : (c : tie.After-number-in2) → c .number-in2 .result ≡ trailerRead (bytesIn (entry (search needs)))
 trailer-is c =
     let bytes = bytesIn (entry (search needs)) in
     let end = length bytes - 3 in
-    c .number-of2 .ensures
-    ∙ ap (λ (x : List ℕ). number (bytesBits x)) (take-all (length bytes - end) (drop end bytes) (omega (arith, length-drop end bytes)))
+    c .number-in2 .ensures
+    ∙ ap numberIn (take-all (length bytes - end) (drop end bytes) (omega (arith, length-drop end bytes)))
+    ∙ number-in-all (drop end bytes) (omega (arith, length-drop end bytes))
 
 -- the checksum that was worked out is that of all before it
 worked-out : (c : tie.After-frame-checksum-on) → let s = entry (search needs) in
@@ -77,7 +83,7 @@ past3 : (c : tie.Else3) → Passed 2 (search needs)
 past3 c =
     let even : tie.Else2 = search needs in
     let n = length (bytesIn (search needs)) in
-    past2 (search needs) then (ap (λ (b : Bool). b || ltb 262 n) (ne-eqb _ 1 (even .if2 .left)) ∙ le-ltb 262 n (c .if3 .left))
+    past2 (search needs) then (ap (λ (b : Bool). b || ltb longestFrame n) (ne-eqb _ 1 (even .if2 .left)) ∙ le-ltb longestFrame n (c .if3 .left))
 
 past4 : (c : tie.Else4) → Passed 3 (entry (search needs))
 past4 c =
@@ -101,8 +107,8 @@ past8 c =
 
 -- ---- each return
 
-answered : (s : tie.Start) {n : ℕ} → let l = refusalsOn (s .args .channel) (bytesIn s) in first l ≡ n → rule n (bytesIn s) ≡ rule (first l) (bytesIn s)
-answered s e = ap (λ (n : ℕ). rule n (bytesIn s)) (sym e)
+answered : (s : tie.Start) {n : ℕ} → let l = refusalsOn (s .args .channel) (bytesIn s) in first l ≡ n → tells n (bytesIn s) ≡ ruleOn (s .args .channel) (bytesIn s)
+answered s e = ap (λ (n : ℕ). tells n (bytesIn s)) (sym e)
 
 returns : tie.Need-returns
 returns c = answered (search needs) (first-at start (lt-ltb _ 8 (c .if1 .taken)))
@@ -113,7 +119,7 @@ returns-2 c = answered (search needs) (first-at (past2 (search needs)) (true-lef
 returns-3 : tie.Need-returns-3
 returns-3 c =
     let s : tie.Start = search needs in
-    answered s (first-at (past2 (search needs)) (true-right (odd (length (bytesIn s))) _ (lt-ltb 262 _ (c .if3 .taken))))
+    answered s (first-at (past2 (search needs)) (true-right (odd (length (bytesIn s))) _ (lt-ltb longestFrame _ (c .if3 .taken))))
 
 returns-4 : tie.Need-returns-4
 returns-4 c =

@@ -11,7 +11,7 @@ use borrow.Author.Tests.{eq-eqb, ne-eqb, lt-leb, le-leb, not-true, not-false}
 use lib.ListN.{length, getD, take}
 use lib.Seq.{take-all}
 use Rattle.numbers.proofs.Walk.{came, length-of-mapped}
-use Rattle.header.specs.declared.Slot.{Slot}
+use Rattle.base_types.specs.declared.id.Slot.{Slot}
 use Rattle.sync_list.specs.Lists.{rowCount, listed}
 use Rattle.sync_list.proofs.ListLaws.{Walk, walk-start, walk-next, walk-there, noRow, NotYet, it-is-here, not-here}
 use Rattle.list_soundness.proofs.SoundLaws.{SoundSoFar, none-passed, new-above, row-fine, unsound-at, twice-at, all-passed}

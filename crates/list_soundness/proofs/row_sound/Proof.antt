@@ -5,7 +5,7 @@ use Rattle.list_soundness.proofs.row_sound.Tie as tie
 use mathlib.Core.Path.{_≡_, sym, _∙_}
 use mathlib.Core.Bool.{true, false, _||_}
 use borrow.Author.Tests.{not-true, not-false}
-use Rattle.header.specs.Refusals.{notAnId}
+use Rattle.base_types.specs.Slot.{notAnId}
 use Rattle.sync_list.specs.Rows.{isMeasured}
 use Rattle.list_soundness.specs.Sound.{isInRange}
 

@@ -12,9 +12,9 @@ use native.Mathlib.Omega.{arith}
 use borrow.Author.Tests.{eq-eqb, ne-eqb}
 use lib.ListN.{length, getD}
 use Rattle.numbers.proofs.Walk.{came, length-of-mapped}
-use Rattle.header.specs.declared.Slot.{Slot}
+use Rattle.base_types.specs.declared.id.Slot.{Slot}
 use Rattle.correction.specs.declared.value.Value.{Value}
-use Rattle.correction.specs.Microtick.{held}
+use Rattle.base_types.specs.Microtick.{held}
 use Rattle.correction.specs.Values.{rateValueBy}
 use Rattle.sync_list.specs.declared.row.Row.{Row}
 use Rattle.sync_list.specs.Rows.{blank, deviationsOf}

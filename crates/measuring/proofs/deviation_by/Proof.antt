@@ -3,7 +3,7 @@ use borrow.Author.Needs.{needs}
 use Rattle.measuring.proofs.deviation_by.Statement.{statement}
 use Rattle.measuring.proofs.deviation_by.Tie as tie
 use mathlib.Core.Path.{_≡_}
-use Rattle.correction.specs.Microtick.{held}
+use Rattle.base_types.specs.Microtick.{held}
 use Rattle.correction.specs.Deviation.{deviation}
 
 returns : tie.Need-returns

@@ -40,6 +40,7 @@ returns-3 c =
     let bytes = now (s .args .bytes) in
     let missed : tie.After-first-miss = search needs in
     let kept : tie.After-kept-by = search needs in
+    let reason : tie.After-reason = search needs in
     let header : Header = found .reading .given .0 .0 in
     let says : ReadOnSays (status .channel) bytes (Accepted header) =
     subst (ReadOnSays (status .channel) bytes) (found .reading .given .1) (read .«read-on» .ensures) in
@@ -47,6 +48,7 @@ returns-3 c =
     (rw (
       brings-frame (placeOf status) bytes header says,
       c .before .«with-arrival2» .ensures,
+      reason .reason .ensures,
       kept .«kept-by» .ensures,
       missed .«first-miss» .ensures,
     ))
@@ -57,4 +59,4 @@ arrived-spec =
     (tie.spec
     (λ c κs. search needs) (λ c κs. search needs) returns
     (λ c κs. search needs) (λ c. search needs) (λ c κs. search needs) (λ c κs. search needs) returns-2
-    (λ c κs. search needs) (λ c κs. search needs) (λ c κs. search needs) (λ c κs. search needs) returns-3)
+    (λ c κs. search needs) (λ c κs. search needs) (λ c κs. search needs) (λ c κs. search needs) (λ c κs. search needs) returns-3)

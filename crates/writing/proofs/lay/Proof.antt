@@ -4,6 +4,7 @@ use Prim.Native.Nat.{ℕ, _+_, _-_, _/_}
 use mathlib.Core.Bool.{Bool}
 use mathlib.Core.List.{List, _++_}
 use native.Mathlib.Nat.{sub-zero}
+use native.Mathlib.Omega.{arith}
 use lib.ListN.{length, take, drop}
 use denote.Ref.{now}
 use borrow.Rule.Slice.PartMut.{putMid}
@@ -14,6 +15,7 @@ use Rattle.header.specs.Layout.{wholeHeader}
 use Rattle.lent_bytes.specs.Over.{over}
 use Rattle.writing.specs.Write.{headerOf, headerAndPayload, frameBytes}
 use Rattle.lent_bytes.proofs.OverLaws.{over-copied, take-over, over-behind, lent-end}
+use Rattle.lent_bytes.proofs.NumberLaws.{number-put}
 use Rattle.writing.proofs.WriteLaws.{length-start}
 use borrow.Author.Needs.{needs}
 use Rattle.writing.proofs.lay.Statement.{statement}
@@ -34,6 +36,7 @@ header-laid c =
     let q : tie.After-packed = search needs in
     let r : tie.After-header-of = search needs in
     p .put-number .ensures
+    ∙ number-put (q .packed .result) 5 (now (entry c .args .output)) (omega arith) (omega arith)
     ∙ ap (λ (x : List Bool). over (bytesOf 5 x) (now (entry c .args .output))) (q .packed .ensures .0 ∙ ap wholeHeader (r .header-of .ensures))
 
 payload-laid : (c : tie.After-copy) → let a = entry c .args in

@@ -1,9 +1,11 @@
 -- `put_trailer` meets its contract: three bytes of the checksum, the most significant first, and all behind them as it was.
 use borrow.Author.Needs.{needs}
-use mathlib.Core.Path.{_≡_}
+use mathlib.Core.Path.{_≡_, _∙_}
+use native.Mathlib.Omega.{arith}
 use denote.Ref.{now}
 use Rattle.division.specs.Bits.{bits, bytesOf}
 use Rattle.lent_bytes.specs.Over.{over}
+use Rattle.lent_bytes.proofs.NumberLaws.{number-put}
 use Rattle.writing.proofs.put_trailer.Statement.{statement}
 use Rattle.writing.proofs.put_trailer.Tie as tie
 
@@ -11,7 +13,9 @@ use Rattle.writing.proofs.put_trailer.Tie as tie
 laid : (c : tie.After-put-number)
     → c .«put-number» .last .0
     ≡ over (bytesOf 3 (bits 24 (c .before .before .before .args .checksum))) (now (c .before .before .before .args .output))
-laid c = c .«put-number» .ensures
+laid c =
+    let a = c .before .before .before .args in
+    c .«put-number» .ensures ∙ number-put (a .checksum) 3 (now (a .output)) (omega arith) (omega arith)
 
 -- and nothing was done behind them
 returns : tie.Need-returns

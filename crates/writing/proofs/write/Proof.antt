@@ -9,9 +9,9 @@ use native.Mathlib.Omega.{arith}
 use lib.ListN.{length, drop}
 use denote.Ref.{now}
 use Rattle.refusal.proofs.FirstLaws.{Past, start, _then_, passed, first-at, first-none-left}
-use Rattle.checksum.specs.declared.Channel.{Channel}
-use Rattle.checksum.specs.Channel.{notAChannel, channelOf}
-use Rattle.checksum.proofs.ChannelLaws.{named-is, named-not}
+use Rattle.base_types.specs.declared.channel.Channel.{Channel}
+use Rattle.base_types.specs.Channel.{notAChannel, channelOf}
+use Rattle.base_types.proofs.ChannelLaws.{named-is, named-not}
 use Rattle.lent_bytes.specs.Over.{over}
 use Rattle.writing.specs.declared.Writing.{Writing}
 use Rattle.writing.specs.declared.Writing.the-variants.{NotAChannel, NotAnId, BadPayload, CycleTooHigh, StartupWithoutSync, ReservedSet, OutputTooShort}

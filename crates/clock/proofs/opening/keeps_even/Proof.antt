@@ -7,7 +7,7 @@ use mathlib.Core.Bool.{true}
 use borrow.Author.Tests.{not-true, not-false, eqb-true}
 use native.Mathlib.Omega.{arith}
 use Prim.Native.Nat.{_%_}
-use Rattle.clock.specs.State.{isOdd}
+use Rattle.base_types.specs.Cycle.{isOdd}
 
 is-odd-cycle : (c : tie.Else1) → let s : tie.Start = search needs in isOdd (s .args .cycle) ≡ true
 is-odd-cycle c = sym (c .before .is-odd .ensures) ∙ not-false (c .before .is-odd .result) (c .if1 .left)

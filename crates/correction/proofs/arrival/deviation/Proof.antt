@@ -11,7 +11,7 @@ use mir.Val.{SFits, toZ, ofZ}
 use mir.Facts.{toZ-ofZ}
 use Rattle.numbers.proofs.Signed.{signed, sub-sums}
 use Rattle.numbers.proofs.Wide.{wide-unsigned}
-use Rattle.correction.specs.Microtick.{held}
+use Rattle.base_types.specs.Microtick.{held}
 
 -- a number as an i64 keeps it
 abbrev as-wide : ℤ → ℤ

@@ -10,7 +10,7 @@ use mir.Val.{SFits}
 use mir.Facts.{toZ-ofZ}
 use Rattle.numbers.proofs.Wide.{wide-asked, wide-signed, wide-sum}
 use Rattle.midpoint.specs.Midpoint.{midpoint}
-use Rattle.correction.specs.Microtick.{held}
+use Rattle.base_types.specs.Microtick.{held}
 use mathlib.Core.List.{List, _∷_}
 use Rattle.numbers.proofs.Signed.{signed, add-sum}
 use Rattle.correction.specs.Terms.{isNone, valuesIn, withOwn, damped, limited, missing, rateTermBy}

@@ -2,14 +2,15 @@
 use borrow.Author.Needs.{needs}
 use Prim.Native.Nat.{_-_, _≤_}
 use native.Mathlib.Omega.{arith}
+use Rattle.sync_list.specs.Lists.{rowCount}
 use Rattle.replay.proofs.lists.of.Statement.{statement}
 use Rattle.replay.proofs.lists.of.Tie as tie
 
 abbrev Inv-loop : tie.InvT-loop
-Inv-loop at item rows₀ i₀ rows i = i ≤ 15
+Inv-loop at item rows₀ i₀ rows i = i ≤ rowCount
 
 abbrev μ-loop : tie.MeasureT-loop
-μ-loop at item rows₀ i₀ rows i = 15 - i
+μ-loop at item rows₀ i₀ rows i = rowCount - i
 
 pub of-spec : {M : Type 1} → statement M
 of-spec =

@@ -2,14 +2,15 @@
 use borrow.Author.Needs.{needs}
 use Prim.Native.Nat.{_-_, _≤_}
 use native.Mathlib.Omega.{arith}
+use Rattle.sync_list.specs.Lists.{rowCount}
 use Rattle.replay.proofs.lists.put.Statement.{statement}
 use Rattle.replay.proofs.lists.put.Tie as tie
 
 abbrev Inv-loop : tie.InvT-loop
-Inv-loop line₀ at list rows at₀ i₀ line at' i = i ≤ 15
+Inv-loop line₀ at list rows at₀ i₀ line at' i = i ≤ rowCount
 
 abbrev μ-loop : tie.MeasureT-loop
-μ-loop line₀ at list rows at₀ i₀ line at' i = 15 - i
+μ-loop line₀ at list rows at₀ i₀ line at' i = rowCount - i
 
 pub put-spec : {M : Type 1} → statement M
 put-spec =

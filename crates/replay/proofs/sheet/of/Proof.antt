@@ -2,14 +2,15 @@
 use borrow.Author.Needs.{needs}
 use Prim.Native.Nat.{_-_, _≤_}
 use native.Mathlib.Omega.{arith}
+use Rattle.settings.specs.Sheet.{fieldCount}
 use Rattle.replay.proofs.sheet.of.Statement.{statement}
 use Rattle.replay.proofs.sheet.of.Tie as tie
 
 abbrev Inv-loop : tie.InvT-loop
-Inv-loop item fields₀ i₀ fields i = i ≤ 11
+Inv-loop item fields₀ i₀ fields i = i ≤ fieldCount
 
 abbrev μ-loop : tie.MeasureT-loop
-μ-loop item fields₀ i₀ fields i = 11 - i
+μ-loop item fields₀ i₀ fields i = fieldCount - i
 
 pub of-spec : {M : Type 1} → statement M
 of-spec =

@@ -2,14 +2,15 @@
 use borrow.Author.Needs.{needs}
 use Prim.Native.Nat.{_-_, _≤_}
 use native.Mathlib.Omega.{arith}
+use Rattle.settings.specs.Sheet.{fieldCount}
 use Rattle.replay.proofs.sheet.put.Statement.{statement}
 use Rattle.replay.proofs.sheet.put.Tie as tie
 
 abbrev Inv-loop : tie.InvT-loop
-Inv-loop line₀ at settings fields at₀ i₀ line at' i = i ≤ 11
+Inv-loop line₀ at settings fields at₀ i₀ line at' i = i ≤ fieldCount
 
 abbrev μ-loop : tie.MeasureT-loop
-μ-loop line₀ at settings fields at₀ i₀ line at' i = 11 - i
+μ-loop line₀ at settings fields at₀ i₀ line at' i = fieldCount - i
 
 pub put-spec : {M : Type 1} → statement M
 put-spec =

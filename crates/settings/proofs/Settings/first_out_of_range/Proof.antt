@@ -9,15 +9,15 @@ use native.Mathlib.Numerals.{add-one}
 use native.Mathlib.Omega.{arith}
 use lib.ListN.{length, getD, drop, drop-of-length-le}
 use lib.Seq.{drop-cons}
-use Rattle.settings.specs.Sheet.{_to_, ranges as table, within, firstOutside}
+use Rattle.settings.specs.Sheet.{fieldCount, _to_, ranges as table, within, firstOutside}
 use Rattle.settings.proofs.Settings.first_out_of_range.Statement.{statement}
 use Rattle.settings.proofs.Settings.first_out_of_range.Tie as tie
 
 abbrev Inv-loop : tie.InvT-loop
-Inv-loop fields ranges i₀ number₀ i number = (i ≤ 11) × (number ≡ suc i) × (firstOutside 1 table fields ≡ firstOutside number (drop i table) (drop i fields))
+Inv-loop fields ranges i₀ number₀ i number = (i ≤ fieldCount) × (number ≡ suc i) × (firstOutside 1 table fields ≡ firstOutside number (drop i table) (drop i fields))
 
 abbrev μ-loop : tie.MeasureT-loop
-μ-loop fields ranges i₀ number₀ i number = 11 - i
+μ-loop fields ranges i₀ number₀ i number = fieldCount - i
 
 loop-holds : tie.Need-loop-holds Inv-loop μ-loop
 loop-holds c = (omega arith, refl, refl)
@@ -33,8 +33,8 @@ unfolding firstOutside
 turn c =
     let l = c .before .before .before .loop in
     let fields = c .before .before .before .before .before .args .self .fields in
-    let long : length fields ≡ 11 = search needs in
-    let t : l .i < 11 = omega (arith, c .before .before .loop-test .taken) in
+    let long : length fields ≡ fieldCount = search needs in
+    let t : l .i < fieldCount = omega (arith, c .before .before .loop-test .taken) in
     let range = drop-cons table (l .i) (0 to 0) t in
     let value = drop-cons fields (l .i) 0 (rw long t) in
     let found : within (getD table (l .i) (0 to 0)) (getD fields (l .i) 0) ≡ c .holds .result = sym (c .holds .ensures) in

@@ -6,9 +6,9 @@ use Prim.Native.Nat.{ℕ, suc}
 use lib.ListN.{drop}
 use Rattle.refusal.specs.Refusal.{Line, first}
 use Rattle.refusal.proofs.FirstLaws.{Past, start, _then_, passed, first-at, first-none-left}
-use Rattle.checksum.specs.declared.Channel.{Channel}
-use Rattle.checksum.specs.Channel.{notAChannel, channelOf}
-use Rattle.checksum.proofs.ChannelLaws.{named-is, named-not}
+use Rattle.base_types.specs.declared.channel.Channel.{Channel}
+use Rattle.base_types.specs.Channel.{notAChannel, channelOf}
+use Rattle.base_types.proofs.ChannelLaws.{named-is, named-not}
 use Rattle.settings.specs.declared.Settings.{Settings}
 use Rattle.settings.specs.Sheet.{firstOutOfRange}
 use Rattle.settings.proofs.SheetLaws.{out-of-range, in-range}

@@ -5,7 +5,9 @@ use borrow.Author.Tests.{lt-leb, le-leb}
 use lib.Dec.{leb}
 use Rattle.header.specs.declared.Header.{Header}
 use Rattle.header.specs.Layout.{mostWords}
-use Rattle.header.specs.Refusals.{notAnId, cycleTooHigh, startupWithoutSync}
+use Rattle.base_types.specs.Slot.{notAnId}
+use Rattle.base_types.specs.Cycle.{cycleTooHigh}
+use Rattle.header.specs.Refusals.{startupWithoutSync}
 use borrow.Author.Needs.{needs}
 use Rattle.slot.proofs.sound.could_be_read.Statement.{statement}
 use Rattle.slot.proofs.sound.could_be_read.Tie as tie

@@ -20,7 +20,7 @@ returns-3 c =
     let found : tie.After-kept = search needs in
     let asked : tie.After-could-be-read = search needs in
     let good : couldBeRead (found .kept .given .0 .0) ≡ true = sym (asked .«could-be-read» .ensures) ∙ not-false _ (c .before .before .if1 .left) in
-    rw (found .kept .given .1, good, sym (c .before .«first-miss» .ensures), sym (c .«is-reason» .ensures))
+    rw (found .kept .given .1, good, sym (c .before .«first-miss» .ensures), sym (c .«is-passed» .ensures))
 
 pub keeps-well-spec : {M : Type 1} → statement M
 keeps-well-spec =

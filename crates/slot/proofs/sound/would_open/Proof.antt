@@ -7,8 +7,8 @@ use lib.Dec.{eqb}
 use lib.ListN.{drop}
 use Rattle.refusal.specs.Refusal.{Line}
 use Rattle.refusal.proofs.FirstLaws.{Past, start, _then_, passed, first-past, first-at, first-last}
-use Rattle.checksum.specs.Channel.{numberOf}
-use Rattle.checksum.proofs.ChannelLaws.{is-a-channel}
+use Rattle.base_types.specs.Channel.{numberOf}
+use Rattle.base_types.proofs.ChannelLaws.{is-a-channel}
 use Rattle.settings.proofs.SheetLaws.{out-of-range, in-range}
 use Rattle.slot.specs.declared.status.Status.{Status}
 use Rattle.slot.specs.Opening.{openingRefusals}

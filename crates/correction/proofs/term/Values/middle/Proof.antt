@@ -8,11 +8,11 @@ use lib.ListN.{length}
 use mir.Syntax.{w32}
 use mir.Val.{SFits}
 use mir.Facts.{toZ-ofZ}
-use Rattle.midpoint.specs.Midpoint.{midpoint}
+use Rattle.midpoint.specs.Midpoint.{midpoint, mostValues}
 use Rattle.correction.specs.Terms.{withOwn, valuesIn}
 use Rattle.correction.proofs.TermLaws.{own-counted, own-uncounted}
 
-long : (c : tie.Start) → length (c .args .self .numbers) ≡ 16
+long : (c : tie.Start) → length (c .args .self .numbers) ≡ mostValues
 long c = search needs
 
 returns : tie.Need-returns

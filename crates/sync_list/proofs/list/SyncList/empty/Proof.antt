@@ -1,4 +1,4 @@
--- `empty` meets its contract: fifteen blank rows and count 0.
+-- `empty` meets its contract: all rows blank, and count 0.
 use borrow.Author.Needs.{needs}
 use Rattle.sync_list.proofs.list.SyncList.empty.Statement.{statement}
 use Rattle.sync_list.proofs.list.SyncList.empty.Tie as tie

@@ -1,4 +1,4 @@
--- `listed` meets its contract: the count, or fifteen where it is above.
+-- `listed` meets its contract: the count, or that of all rows where it is above.
 use Rattle.sync_list.proofs.list.SyncList.listed.Statement.{statement}
 use Rattle.sync_list.proofs.list.SyncList.listed.Tie as tie
 use borrow.Author.Tests.{lt-ltb, le-ltb}

@@ -1,0 +1,3 @@
+pub mod ChannelLaws
+pub mod SlotLaws
+pub mod HeldLaws

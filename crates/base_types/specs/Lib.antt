@@ -1,0 +1,4 @@
+pub mod Channel
+pub mod Slot
+pub mod Cycle
+pub mod Microtick

@@ -1,0 +1,45 @@
+-- The clauses of soundness, one by one.
+use mathlib.Core.Path.{_≡_, sym, ap}
+use mathlib.Core.Bool.{Bool, true, false, not, _&&_}
+use borrow.Author.Tests.{not-true}
+use Rattle.numbers.proofs.Truth.{both-true, true-both}
+use Rattle.slot.specs.declared.status.Status.{Status}
+use Rattle.slot.specs.Judging.{placeOf, isReason, isFrame, hasArrival}
+use Rattle.slot.specs.Sound.{wouldOpen, keepsWell, exactlyWith, sound}
+
+exactly-same : (a b : Bool) → exactlyWith a b ≡ true → a ≡ b
+exactly-same true b e = sym e
+exactly-same false b e = sym (not-true b e)
+
+same-exactly : (a b : Bool) → a ≡ b → exactlyWith a b ≡ true
+same-exactly true b e = sym e
+same-exactly false b e = ap not (sym e)
+
+-- the five clauses, as equations
+pub record Clauses (s : Status) : Type 0 where
+  pub opens : wouldOpen (placeOf s) ≡ true
+  pub content : s .«content_error» ≡ isReason (s .reason)
+  pub valid : s .valid ≡ isFrame (s .kept)
+  pub keeps : keepsWell (placeOf s) (s .kept) ≡ true
+  pub conflict : s .conflict ≡ s .«own_sending» && hasArrival s
+
+pub clauses : (s : Status) → sound s ≡ true → Clauses s
+clauses s e =
+    let p1 = both-true (wouldOpen (placeOf s)) _ e in
+    let p2 = both-true (exactlyWith (s .«content_error») (isReason (s .reason))) _ (p1 .1) in
+    let p3 = both-true (exactlyWith (s .valid) (isFrame (s .kept))) _ (p2 .1) in
+    let p4 = both-true (keepsWell (placeOf s) (s .kept)) _ (p3 .1) in
+    record {
+      opens = p1 .0;
+      content = exactly-same (s .«content_error») (isReason (s .reason)) (p2 .0);
+      valid = exactly-same (s .valid) (isFrame (s .kept)) (p3 .0);
+      keeps = p4 .0;
+      conflict = exactly-same (s .conflict) (s .«own_sending» && hasArrival s) (p4 .1);
+    }
+
+pub clauses-sound : (s : Status) → Clauses s → sound s ≡ true
+clauses-sound s c =
+    true-both (wouldOpen (placeOf s)) _ (c .opens)
+    (true-both (exactlyWith (s .«content_error») (isReason (s .reason))) _ (same-exactly (s .«content_error») (isReason (s .reason)) (c .content))
+    (true-both (exactlyWith (s .valid) (isFrame (s .kept))) _ (same-exactly (s .valid) (isFrame (s .kept)) (c .valid))
+    (true-both (keepsWell (placeOf s) (s .kept)) _ (c .keeps) (same-exactly (s .conflict) (s .«own_sending» && hasArrival s) (c .conflict)))))
