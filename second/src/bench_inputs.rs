@@ -1,5 +1,6 @@
 //! Whole inputs for the bench program by 01 "Numbers to check against", each with its line written by hand.
 
+use crate::bench::LONGEST_INPUT;
 use crate::bits;
 use crate::channel::Channel::{A, B};
 use crate::draft::Draft;
@@ -88,10 +89,10 @@ fn flipped(mut frame: Vec<u8>, place: usize) -> Vec<u8> {
 fn beyond_263_bytes() -> [BenchInput; 5] {
     let many = LONG.sized(A, MANY_BYTES - 1);
     [
-        on(0, &LONG.sized(A, 263), "longest_frame_and_one_byte_on_a", "refused 3\n"),
-        on(1, &LONG.sized(B, 263), "longest_frame_and_one_byte_on_b", "refused 3\n"),
+        on(0, &LONG.sized(A, LONGEST_INPUT), "longest_frame_and_one_byte_on_a", "refused 3\n"),
+        on(1, &LONG.sized(B, LONGEST_INPUT), "longest_frame_and_one_byte_on_b", "refused 3\n"),
         on(0, &many, "longest_frame_in_5000_bytes_on_a", "refused 3\n"),
-        on(2, &LONG.sized(A, 263), "channel_2_before_263_bytes", "refused 1\n"),
+        on(2, &LONG.sized(A, LONGEST_INPUT), "channel_2_before_263_bytes", "refused 1\n"),
         on(255, &many, "channel_255_before_4999_bytes", "refused 1\n"),
     ]
 }
@@ -117,6 +118,7 @@ mod tests {
 
     use super::*;
     use crate::bench;
+    use crate::frame::SMALLEST_FRAME;
 
     #[test]
     fn the_program_gives_the_lines() {
@@ -144,7 +146,7 @@ mod tests {
     #[test]
     fn sizes_at_the_ends_occur() {
         let sizes: BTreeSet<usize> = all().iter().map(|input| input.bytes.len()).collect();
-        for size in [0, 1, 9, 263, 264, 5000] {
+        for size in [0, 1, 1 + SMALLEST_FRAME, LONGEST_INPUT, LONGEST_INPUT + 1, MANY_BYTES] {
             assert!(sizes.contains(&size), "{size}");
         }
     }

@@ -24,9 +24,10 @@ use crate::plan::{Expected, Plan};
 use crate::random::Random;
 use crate::script::Command;
 
-pub use bench::NUMBERS as BENCH_NUMBERS;
-pub use listed_frames::NUMBERS as FRAME_NUMBERS;
-pub use listed_slots::NUMBERS as SLOT_NUMBERS;
+pub use bench::SHORT_INPUTS;
+pub use borders::{BORDERS, LOOKS};
+pub use listed::CHECK_VALUES;
+pub use listed_frames::{HEADER_CHECKSUMS, HEADER_REMAINDERS, REMAINDER};
 
 /// Fixed, so that the script is the same at every run.
 const SEED: u64 = 0x01_0019_0262;

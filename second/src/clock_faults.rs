@@ -2,19 +2,31 @@
 
 use crate::channel::Channel;
 use crate::clock::{Times, LATEST};
-use crate::clock_note::Unfit;
 use crate::clock_numbers::{ClockNumbers, ListNumbers};
 use crate::clock_scene::{fair_clock, row_on, settings_with_static, status_with, sync_status, HIGHEST_SYNC_ID};
 use crate::closing::Controls;
 use crate::draft::fair_cycle;
 use crate::faults::{wrong_cycle, wrong_value};
-use crate::frame::HIGHEST_CYCLE;
+use crate::frame::{HIGHEST_CYCLE, HIGHEST_ID};
 use crate::random::Random;
 use crate::refusal::Refusal;
 use crate::script::Command;
 use crate::settings::{FIELDS, RATE_LIMIT, STATIC_SLOTS, SYNC_ID_LIMIT};
 use crate::status_numbers::StatusNumbers;
 use crate::sync_list::{DEVIATIONS, PLACES};
+
+/// The three causes of refusal 20.
+#[derive(Clone, Copy, Debug, PartialEq, Eq)]
+pub enum Unfit {
+    NoValidFrame,
+    NotSync,
+    /// By the status's settings; the clock state's call the slot static.
+    NotStatic,
+}
+
+impl Unfit {
+    pub const ALL: [Unfit; 3] = [Unfit::NoValidFrame, Unfit::NotSync, Unfit::NotStatic];
+}
 
 pub struct Faulty {
     pub clock: ClockNumbers,
@@ -167,7 +179,7 @@ fn spoil_row(random: &mut Random, list: &mut ListNumbers) {
     let other = list.rows[(place + 1) % list.listed().len()].id;
     let row = &mut list.rows[place];
     match random.below(4) {
-        0 => row.id = random.pick(&[0, 2048, 2049, 65535]),
+        0 => row.id = random.pick(&[0, HIGHEST_ID + 1, HIGHEST_ID + 2, u16::MAX]),
         1 => row.id = other,
         2 => row.seen &= 0b1111_1100,
         _ => {

@@ -1,7 +1,6 @@
 //! Clock commands with what must come of them, and showings of the clock state between them.
 
 use crate::clock::Times;
-use crate::clock_note::ClockNote;
 use crate::clock_numbers::ClockNumbers;
 use crate::clock_scene::closed;
 use crate::closing::Controls;
@@ -57,13 +56,8 @@ pub fn show(plan: &mut Plan, numbers: &ClockNumbers) {
     plan.add(Command::Show, Expected::Clock(Box::new(numbers.looked_at())));
 }
 
-pub fn show_noted(plan: &mut Plan, numbers: &ClockNumbers, note: ClockNote) {
-    show(plan, numbers);
-    plan.note_clock(note);
-}
-
 /// A command that is refused, and the state that it leaves.
-pub fn refuse(plan: &mut Plan, held: &ClockNumbers, command: Command, refusal: Refusal, note: ClockNote) {
+pub fn refuse(plan: &mut Plan, held: &ClockNumbers, command: Command, refusal: Refusal) {
     let number = refusal.number();
     let line = match command {
         Command::OpenCycle(_) => format!("open {number}"),
@@ -71,15 +65,13 @@ pub fn refuse(plan: &mut Plan, held: &ClockNumbers, command: Command, refusal: R
         _ => format!("close {number} 0 0 0 0 0 0 0"),
     };
     plan.add(command, Expected::Line(line));
-    show_noted(plan, held, note);
+    show(plan, held);
 }
 
 /// Opening, measuring and closing, refused because a state isn't sound.
-pub fn refuse_all(plan: &mut Plan, held: &ClockNumbers, note: impl Fn(char) -> ClockNote) {
-    let commands = [Command::OpenCycle(1), Command::Measure(NO_TIME), Command::CloseCycle(Controls::NONE)];
-    for command in commands {
-        let note = note(command.letter());
-        refuse(plan, held, command, Refusal::NotSound, note);
+pub fn refuse_all(plan: &mut Plan, held: &ClockNumbers) {
+    for command in [Command::OpenCycle(1), Command::Measure(NO_TIME), Command::CloseCycle(Controls::NONE)] {
+        refuse(plan, held, command, Refusal::NotSound);
     }
 }
 
@@ -90,9 +82,9 @@ pub fn measure(plan: &mut Plan, status: &StatusNumbers, times: Times, deviation:
 }
 
 /// Puts the status and measures, which is refused.
-pub fn refuse_measure(plan: &mut Plan, held: &ClockNumbers, status: &StatusNumbers, refusal: Refusal, note: ClockNote) {
+pub fn refuse_measure(plan: &mut Plan, held: &ClockNumbers, status: &StatusNumbers, refusal: Refusal) {
     history::put(plan, status);
-    refuse(plan, held, Command::Measure(NO_TIME), refusal, note);
+    refuse(plan, held, Command::Measure(NO_TIME), refusal);
 }
 
 /// Puts a state, closes its cycle and shows what is left with the rate stored.

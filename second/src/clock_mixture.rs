@@ -4,7 +4,7 @@ use crate::channel::Channel;
 use crate::clock::Times;
 use crate::clock_faults::{fair_controls, fair_times, unsound, wrong_controls, wrong_times};
 use crate::clock_numbers::ClockNumbers;
-use crate::clock_scene::{fair_clock, settings_with_static, some_ids, sync_status};
+use crate::clock_scene::{fair_clock, settings_with_static, some_ids, sync_status, HIGHEST_SYNC_ID};
 use crate::draft::fair_cycle;
 use crate::faults::{wrong_cycle, wrong_value};
 use crate::frame::HIGHEST_CYCLE;
@@ -12,6 +12,7 @@ use crate::random::Random;
 use crate::scene::{fair_settings, Kind, Scene};
 use crate::script::Command;
 use crate::settings::{Settings, FIELDS, RATE_LIMIT, STATIC_WORDS};
+use crate::sync_list::PLACES;
 
 const MOST_CYCLES: usize = 5;
 
@@ -33,9 +34,9 @@ pub fn episode(random: &mut Random) -> Vec<Command> {
 }
 
 fn any_cluster(random: &mut Random) -> Cluster {
-    let count = if random.one_in(4) { random.between(5, 16) } else { random.between(1, 4) };
+    let count = if random.one_in(4) { random.between(5, PLACES + 1) } else { random.between(1, 4) };
     let mut ids = some_ids(random, count);
-    ids.iter_mut().for_each(|id| *id = (*id - 1) % 1023 + 1);
+    ids.iter_mut().for_each(|id| *id = (*id - 1) % HIGHEST_SYNC_ID + 1);
     Cluster { ids, drift: random.between(0, 60) as i32 - 30 }
 }
 

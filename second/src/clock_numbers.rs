@@ -155,7 +155,7 @@ mod tests {
     #[test]
     fn every_number_has_its_place() {
         let even = "EVEN 2 0 0 0 0 65535 2 0 -7";
-        let odd = format!("ODD 255 1 0 0 0{}", " 65535 2 0 -7".repeat(14));
+        let odd = format!("ODD 255 1 0 0 0{}", " 65535 2 0 -7".repeat(PLACES - 1));
         let settings = "1 2 3 4 5 6 7 8 9 10 4294967295 1";
         let shown = ClockNumbers::of(&strange().state());
         assert_eq!(shown.line(), format!("clock {settings} 1 200 1 64 -5 {even} {odd}"));

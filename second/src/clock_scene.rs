@@ -3,23 +3,50 @@
 use crate::channel::Channel;
 use crate::clock_numbers::{ClockNumbers, ListNumbers, RowNumbers};
 use crate::draft::fair_cycle;
-use crate::frame::HIGHEST_ID;
+use crate::frame::{HIGHEST_CYCLE, HIGHEST_ID};
 use crate::marks::Mark;
 use crate::random::Random;
 use crate::scene::fair_settings;
-use crate::settings::{Settings, RATE_LIMIT, STATIC_SLOTS, STATIC_WORDS, SYNC_ID_LIMIT};
+use crate::settings::{
+    self, Settings, FIELDS, MOST_STATIC_SLOTS, OFFSET_LIMIT, RATE_LIMIT, STATIC_SLOTS, STATIC_WORDS, SYNC_ID_LIMIT,
+};
 use crate::status_numbers::{HeaderNumbers, StatusNumbers};
 use crate::sync_list::{DEVIATIONS, PLACES};
 
 /// The highest ID that a sync frame can have, static slots going no further.
-pub const HIGHEST_SYNC_ID: u16 = 1023;
+pub const HIGHEST_SYNC_ID: u16 = MOST_STATIC_SLOTS as u16;
 
 const NOT_NULL: u8 = 0b00100;
 const SYNC: u8 = 0b01000;
 
 /// A sheet with everything at 0 that can be, and limits as wide as can be.
 pub fn wide_settings(sends_sync: bool) -> Settings {
-    Settings { fields: [0, 0, 0, 15, 20_000, 4_000, 0, 0, 0, 0, 1023], sends_sync }
+    let mut settings = Settings { fields: [0; FIELDS], sends_sync };
+    for field in [SYNC_ID_LIMIT, OFFSET_LIMIT, RATE_LIMIT, STATIC_SLOTS] {
+        settings = settings.with_field(field, settings::ends(field).1);
+    }
+    settings
+}
+
+/// What the last closed cycle was when a cycle was opened.
+#[derive(Clone, Copy, Debug, PartialEq, Eq)]
+pub enum Last {
+    None,
+    /// The cycle before, which is 63 before 0.
+    Before,
+    Same,
+    Other,
+}
+
+impl Last {
+    pub fn of(closed: Option<u8>, cycle: u8) -> Last {
+        match closed {
+            None => Last::None,
+            Some(closed) if closed == cycle => Last::Same,
+            Some(closed) if closed == (cycle + HIGHEST_CYCLE) % (HIGHEST_CYCLE + 1) => Last::Before,
+            Some(_) => Last::Other,
+        }
+    }
 }
 
 pub fn row(id: u16, on_a: Option<i32>, on_b: Option<i32>) -> RowNumbers {

@@ -1,5 +1,7 @@
 //! What closing a cycle finds: both terms and their flags by 01 "Clock".
 
+use std::ops::RangeInclusive;
+
 use crate::clock::{list_of, ClockState};
 use crate::correction::{halved, Found};
 use crate::settings::{Settings, DRIFT_DAMPING, EXTERNAL_OFFSET_UNIT, EXTERNAL_RATE_UNIT, OFFSET_LIMIT, RATE_LIMIT};
@@ -12,11 +14,14 @@ pub struct Controls {
     pub rate: i8,
 }
 
+/// What an external control can be.
+pub const CONTROLS: RangeInclusive<i8> = -1..=1;
+
 impl Controls {
     pub const NONE: Controls = Controls { offset: 0, rate: 0 };
 
     pub fn are_known(self) -> bool {
-        [self.offset, self.rate].iter().all(|control| (-1..=1).contains(control))
+        [self.offset, self.rate].iter().all(|control| CONTROLS.contains(control))
     }
 }
 
@@ -124,84 +129,4 @@ fn pairs(earlier: &Sighting, later: &Sighting) -> Vec<i64> {
         Some(i64::from(*odd) - i64::from(*even))
     };
     later.deviations.iter().filter_map(on_channel).collect()
-}
-
-#[cfg(test)]
-mod tests {
-    use super::*;
-    use crate::channel::Channel;
-    use crate::clock_scene::wide_settings;
-
-    /// Rows of ID, deviation on A and on B.
-    type Rows = [(u16, Option<i32>, Option<i32>)];
-
-    fn list(rows: &Rows) -> SyncList {
-        let mut list = SyncList::default();
-        for (id, on_a, on_b) in rows {
-            for (channel, deviation) in Channel::BOTH.into_iter().zip([*on_a, *on_b]) {
-                list = deviation.map_or(list.clone(), |deviation| list.with(*id, channel, deviation));
-            }
-        }
-        list
-    }
-
-    fn state(settings: Settings, stored_rate: i32, even: &Rows, odd: &Rows) -> ClockState {
-        ClockState { settings, stored_rate, lists: [list(even), list(odd)], ..ClockState::default() }
-    }
-
-    fn numbers(state: &ClockState, cycle: u8, offset: i8, rate: i8) -> String {
-        Closing::of(state, cycle, Controls { offset, rate }).numbers()
-    }
-
-    #[test]
-    fn the_smaller_by_sign() {
-        for rows in [[(7, Some(-9), Some(4))], [(7, Some(4), Some(-9))]] {
-            assert_eq!(numbers(&state(wide_settings(false), 0, &rows, &[]), 2, 0, 0), "-9 0 0 0 0 0 1");
-            assert_eq!(numbers(&state(wide_settings(true), 0, &rows, &[]), 2, 0, 0), "-4 0 0 0 0 0 1");
-        }
-    }
-
-    #[test]
-    fn nothing_received() {
-        let settings = wide_settings(true).with_field(EXTERNAL_OFFSET_UNIT, 3).with_field(EXTERNAL_RATE_UNIT, 4);
-        let empty = state(settings, -20, &[], &[]);
-        assert_eq!(numbers(&empty, 2, 0, 0), "0 -20 1 0 0 0 0");
-        assert_eq!(numbers(&empty, 3, 1, -1), "3 -24 1 1 0 0 0");
-        assert_eq!(numbers(&empty, 2, -1, 1), "-3 -16 1 0 0 0 0");
-        assert_eq!(Closing::of(&empty, 3, Controls::NONE).rate_to_store(), None);
-    }
-
-    /// 01: stored 5, midpoint 10, d 2, limit 10: stored 10, flagged; control -1, unit 3 reports 7. Next midpoint 0: 8.
-    #[test]
-    fn rates_of_01() {
-        let settings = wide_settings(false).with_field(DRIFT_DAMPING, 2).with_field(RATE_LIMIT, 10);
-        let settings = settings.with_field(EXTERNAL_RATE_UNIT, 3);
-        let first = state(settings, 5, &[(1, Some(0), None)], &[(1, Some(10), None)]);
-        assert_eq!(numbers(&first, 1, 0, -1), "10 7 0 0 0 1 1");
-        assert_eq!(Closing::of(&first, 1, Controls { offset: 0, rate: -1 }).rate_to_store(), Some(10));
-        let next = state(settings, 10, &[(1, Some(6), None)], &[(1, Some(6), None)]);
-        assert_eq!(Closing::of(&next, 1, Controls::NONE).rate_to_store(), Some(8));
-        let small = state(settings, 1, &[(1, Some(6), None)], &[(1, Some(6), None)]);
-        assert_eq!(Closing::of(&small, 1, Controls::NONE).rate_to_store(), Some(0));
-    }
-
-    #[test]
-    fn pairs_need_one_channel_in_both_cycles() {
-        let even = [(1, Some(100), None), (2, Some(10), Some(20)), (3, Some(5), None)];
-        let rate =
-            |odd: &Rows| Closing::of(&state(wide_settings(false), 0, &even, odd), 1, Controls::NONE).rate_to_store();
-        assert_eq!(rate(&[(1, None, Some(100)), (9, Some(1), Some(1))]), None);
-        assert_eq!(rate(&[(1, Some(93), Some(0))]), Some(-7));
-        assert_eq!(rate(&[(2, None, Some(14))]), Some(-6));
-        assert_eq!(rate(&[(2, Some(9), Some(18))]), Some(-1));
-        assert_eq!(rate(&[(2, Some(18), Some(-5))]), Some(-8));
-    }
-
-    #[test]
-    fn limits_come_before_the_external_term() {
-        let settings = wide_settings(false).with_field(OFFSET_LIMIT, 50).with_field(EXTERNAL_OFFSET_UNIT, 31);
-        for (deviation, line) in [(50, "81 0 0 0 0 0 1"), (51, "81 0 0 0 1 0 1"), (-51, "-19 0 0 0 1 0 1")] {
-            assert_eq!(numbers(&state(settings, 0, &[(1, None, Some(deviation))], &[]), 0, 1, 0), line);
-        }
-    }
 }

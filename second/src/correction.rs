@@ -84,58 +84,10 @@ mod tests {
     use super::*;
 
     #[test]
-    fn midpoints_of_01() {
-        assert_eq!(midpoint(&[15, 13, 6, -3, -5]), 5);
-        assert_eq!(midpoint(&[8, 9]), 8);
-        assert_eq!(midpoint(&[8, -25]), -8);
-        assert_eq!(midpoint(&[-7, 100, -10]), -7);
-        assert_eq!(midpoint(&[1, 2, 3, 4, 5, 6, 7]), 4);
-        assert_eq!(midpoint(&[1, 2, 3, 4, 5, 6, 7, 8]), 4);
-    }
-
-    #[test]
-    fn rates_of_01() {
-        let first = Found::rate(vec![10], 5, 2, 10);
-        assert_eq!((first.term, first.within_limit(), first.is_limited()), (13, 10, true));
-        let next = Found::rate(vec![0], 10, 2, 10);
-        assert_eq!((next.within_limit(), next.is_limited()), (8, false));
-        assert_eq!(Found::rate(vec![0], 1, 2, 10).within_limit(), 0);
-    }
-
-    #[test]
-    fn halves_by_hand() {
-        for (sum, half) in [(-17, -8), (17, 8), (-1, 0), (1, 0), (-2, -1), (0, 0)] {
-            assert_eq!(halved(sum), half);
-        }
-    }
-
-    #[test]
-    fn damping_by_hand() {
-        for (x, by_2) in [(4, 2), (3, 1), (2, 0), (1, 0), (0, 0), (-1, 0), (-2, 0), (-3, -1), (-4, -2)] {
-            assert_eq!(damped(x, 2), by_2);
-            assert_eq!(damped(x, 0), x);
-        }
-    }
-
-    #[test]
-    fn limits_act_at_both_ends() {
-        for (value, within, limited) in [(11, 10, true), (10, 10, false), (-10, -10, false), (-11, -10, true)] {
-            let found = Found::offset(vec![value], 10);
-            assert_eq!((found.within_limit(), found.is_limited()), (within, limited));
-        }
-    }
-
-    #[test]
     fn terms_with_others_discarded() {
         let found = Found::offset(vec![1, 2, 4, 8, 16], 11);
         assert_eq!([0, 1, 2, 3].map(|ends| found.if_discarded(ends)), [Some(8), Some(5), Some(4), None]);
         let found = Found::rate(vec![-1, 2, 40], 10, 2, 11);
         assert_eq!([0, 1, 2].map(|ends| found.if_discarded(ends)), [Some(11), Some(10), None]);
-    }
-
-    #[test]
-    fn numbers_discarded() {
-        let ends: Vec<usize> = (1..=16).map(discarded).collect();
-        assert_eq!(ends, [0, 0, 1, 1, 1, 1, 1, 2, 2, 2, 2, 2, 2, 2, 2, 2]);
     }
 }

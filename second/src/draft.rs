@@ -2,7 +2,7 @@
 
 use crate::bits;
 use crate::channel::Channel;
-use crate::frame::{self, Fields, Indicators, HIGHEST_CYCLE, HIGHEST_ID, TRAILER_BYTES};
+use crate::frame::{self, Fields, Indicators, HIGHEST_CYCLE, HIGHEST_ID, MOST_WORDS, TRAILER_BYTES};
 use crate::random::Random;
 
 #[derive(Clone, Debug)]
@@ -106,15 +106,17 @@ pub fn fair_cycle(random: &mut Random) -> u8 {
 /// Few words as a rule, to keep scripts short, and any number now and then.
 pub fn fair_words(random: &mut Random) -> u8 {
     if random.one_in(16) {
-        return random.between(0, 127) as u8;
+        return random.between(0, MOST_WORDS.into()) as u8;
     }
     random.between(0, 10) as u8
 }
 
-/// A channel number that is neither channel's.
+/// Some of the channel numbers that are neither channel's.
+pub const FOREIGN_CHANNELS: [u8; 4] = [2, 3, 128, 255];
+
 pub fn foreign_channel(random: &mut Random) -> u8 {
     if random.coin() {
-        return random.pick(&[2, 3, 128, 255]);
+        return random.pick(&FOREIGN_CHANNELS);
     }
     random.between(2, 255) as u8
 }

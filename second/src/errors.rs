@@ -5,9 +5,10 @@ mod gate;
 mod sizes;
 
 use crate::channel::Channel;
+use crate::listed_frames::SHORT;
 use crate::replay::{self, Outcome, Replay};
-use crate::script::{Broken, Cause, Command, Opening, Write};
-use crate::settings::Settings;
+use crate::script::{Broken, Cause, Command, Opening, Write, LIMIT};
+use crate::settings::{Settings, FIELDS};
 use crate::status_numbers::{HeaderNumbers, StatusNumbers};
 
 pub use clock::{CLOSED, OPEN};
@@ -38,8 +39,10 @@ impl Small {
     }
 }
 
-/// A frame that is accepted on channel A, from 01 "Numbers to check against".
-const FRAME: [u8; 8] = [0x20, 0x01, 0x01, 0xA7, 0xC0, 0xD0, 0x5E, 0xEA];
+/// A frame that is accepted on channel A.
+fn frame() -> Vec<u8> {
+    SHORT.bytes(Channel::A)
+}
 
 /// In range, and slot 1 is static with them.
 const SETTINGS: Settings = Settings { fields: [1, 2, 3, 4, 5, 6, 7, 8, 9, 0, 11], sends_sync: true };
@@ -106,13 +109,13 @@ fn good_ones() -> Vec<(Vec<u8>, String)> {
     let line = |line: &str| line.to_string();
     let mut commands = vec![
         (Command::checksum(0, b"123456789"), line("checksum 0 7961021\n")),
-        (Command::read(0, &FRAME), line("read 0 0 0 1 0 0 1 0 1695 0 -\n")),
+        (Command::read(0, &frame()), line("read 0 0 0 1 0 0 1 0 1695 0 -\n")),
         (Command::Write(write), line("write 0 8 200101a7c0d05eeaa5\n")),
-        (Command::bench(0, &FRAME), line("accepted 1 0 0\n")),
+        (Command::bench(0, &frame()), line("accepted 1 0 0\n")),
         (Command::OwnSending, line("event 23\n")),
         (Command::OpenSlot(OPENING), line("slot 0 0\n")),
         (Command::Boundary, line("event 0\n")),
-        (Command::Arrived(FRAME.to_vec()), line("event 0\n")),
+        (Command::Arrived(frame()), line("event 0\n")),
         (Command::Show, shown("status 1 2 3 4 5 6 7 8 9 0 11 1 0 1 0 20 0 1 4 1 0 1695 0\n")),
         (Command::PutStatus(STATUS), line("status put\n")),
         (Command::OwnSending, line("event 0\n")),
@@ -138,7 +141,7 @@ fn unknown_letters() -> Vec<Small> {
 
 /// Letters without a meaning before bytes that a command of theirs may have, zeros and good commands.
 fn before_bytes() -> Vec<Small> {
-    let sheet = &bytes_of(&Command::OpenSlot(OPENING))[1..46];
+    let sheet = &bytes_of(&Command::OpenSlot(OPENING))[1..=SENDS_SYNC];
     let zeros = shown(ZERO_STATUS);
     let mut all = Vec::new();
     for letter in [b"G", b"p"] {
@@ -155,11 +158,11 @@ fn ends_inside() -> Vec<Small> {
     let write = Write { channel: 0, flags: 0b00100, id: 1, cycle: 0, payload: vec![1, 2], room: 10 };
     let whole = [
         Command::checksum(0, &[1, 2]),
-        Command::read(0, &FRAME),
+        Command::read(0, &frame()),
         Command::Write(write),
-        Command::bench(0, &FRAME),
+        Command::bench(0, &frame()),
         Command::OpenSlot(OPENING),
-        Command::Arrived(FRAME.to_vec()),
+        Command::Arrived(frame()),
         Command::PutStatus(STATUS),
         // Also a header that isn't looked at must be there whole.
         Command::PutStatus(StatusNumbers { marks: 0, kept: false, ..STATUS }),
@@ -175,12 +178,12 @@ fn ends_inside() -> Vec<Small> {
 }
 
 /// Where a byte stands in its command, the letter at place 0.
-pub const SENDS_SYNC: usize = 45;
-pub const CHANNEL: usize = 46;
-const MARKS: usize = 50;
-const REASON: usize = 51;
-pub const KEPT: usize = 52;
-const FLAGS: usize = 53;
+pub const SENDS_SYNC: usize = 1 + 4 * FIELDS;
+pub const CHANNEL: usize = SENDS_SYNC + 1;
+const MARKS: usize = CHANNEL + 4;
+const REASON: usize = MARKS + 1;
+pub const KEPT: usize = REASON + 1;
+const FLAGS: usize = KEPT + 1;
 
 /// The bytes of a command with one of them changed.
 fn changed(command: &Command, place: usize, byte: u8) -> Vec<u8> {
@@ -228,19 +231,20 @@ fn no_errors() -> Vec<Small> {
 }
 
 fn after_good_ones() -> Vec<Small> {
-    const BROKEN: [(Cause, &[u8]); 18] = [
+    let [low, high] = (LIMIT as u16 + 1).to_le_bytes();
+    let broken: [(Cause, &[u8]); 18] = [
         (Cause::UnknownLetter, b"?"),
         (Cause::EndInside, b"F"),
         (Cause::EndInside, b"R\x00\x08"),
         (Cause::EndInside, b"W\x00\x04\x01\x00\x00\x02\x00\x11"),
         (Cause::EndInside, b"P\x02\x00\x00"),
-        (Cause::SizeAbove, b"F\x00\x59\x02"),
+        (Cause::SizeAbove, &[b'F', 0, low, high]),
         (Cause::SizeAbove, b"R\x00\xFF\xFF"),
-        (Cause::SizeAbove, b"W\x00\x04\x01\x00\x00\x59\x02"),
-        (Cause::RoomAbove, b"W\x00\x04\x01\x00\x00\x00\x00\x59\x02"),
-        (Cause::SizeAbove, b"P\x59\x02"),
+        (Cause::SizeAbove, &[b'W', 0, 4, 1, 0, 0, low, high]),
+        (Cause::RoomAbove, &[b'W', 0, 4, 1, 0, 0, 0, 0, low, high]),
+        (Cause::SizeAbove, &[b'P', low, high]),
         (Cause::EndInside, b"S\x01\x00\x00\x00"),
-        (Cause::SizeAbove, b"A\x59\x02"),
+        (Cause::SizeAbove, &[b'A', low, high]),
         (Cause::EndInside, b"T\x01\x00\x00\x00"),
         (Cause::EndInside, b"L\x01\x00\x00\x00"),
         (Cause::EndInside, b"O"),
@@ -249,7 +253,7 @@ fn after_good_ones() -> Vec<Small> {
         (Cause::EndInside, b"K\x01\x00\x00\x00"),
     ];
     let good = good_ones();
-    let mut all: Vec<Small> = BROKEN.iter().map(|(cause, broken)| after(&good, *cause, broken)).collect();
+    let mut all: Vec<Small> = broken.iter().map(|(cause, broken)| after(&good, *cause, broken)).collect();
     // Nothing behind a script error is played.
     all.push(after(&good, Cause::UnknownLetter, &[b"?", &good[0].0[..]].concat()));
     let many: Vec<_> = good.iter().cycle().take(101).cloned().collect();

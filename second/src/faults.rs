@@ -104,7 +104,7 @@ pub fn other_words(random: &mut Random, words: u8) -> u8 {
     if words < MOST_WORDS && random.one_in(3) {
         return words + 1;
     }
-    (words + random.between(1, 127) as u8) % 128
+    (words + random.between(1, MOST_WORDS.into()) as u8) % (MOST_WORDS + 1)
 }
 
 fn with_startup_fault(indicators: Indicators, faults: &[Refusal]) -> Indicators {
@@ -172,6 +172,12 @@ fn faulty_payload(random: &mut Random, payload: Vec<u8>, faults: &[Refusal]) -> 
     random.bytes(size)
 }
 
+/// IDs out of their range: those beside it, and the highest of all.
+pub const WRONG_IDS: [u16; 3] = [0, HIGHEST_ID + 1, u16::MAX];
+
+/// The same of cycles.
+pub const WRONG_CYCLES: [u8; 2] = [HIGHEST_CYCLE + 1, u8::MAX];
+
 fn wrong_id(random: &mut Random) -> u16 {
     match random.below(4) {
         0 | 1 => 0,
@@ -182,7 +188,7 @@ fn wrong_id(random: &mut Random) -> u16 {
 
 pub fn wrong_cycle(random: &mut Random) -> u8 {
     if random.coin() {
-        return random.pick(&[HIGHEST_CYCLE + 1, 255]);
+        return random.pick(&WRONG_CYCLES);
     }
     random.between(usize::from(HIGHEST_CYCLE) + 1, 255) as u8
 }

@@ -3,16 +3,22 @@
 use crate::bits;
 use crate::channel::Channel;
 use crate::checksum::{FRAME, HEADER};
-use crate::refusal::Refusal;
+use crate::refusal::{holding, refuse_first, Refusal};
 
 pub const HEADER_BYTES: usize = 5;
 pub const TRAILER_BYTES: usize = 3;
-pub const SMALLEST_FRAME: usize = 8;
-pub const LARGEST_FRAME: usize = 262;
-pub const LARGEST_PAYLOAD: usize = 254;
 pub const HIGHEST_ID: u16 = 2047;
 pub const HIGHEST_CYCLE: u8 = 63;
 pub const MOST_WORDS: u8 = 127;
+pub const LARGEST_PAYLOAD: usize = 2 * MOST_WORDS as usize;
+pub const SMALLEST_FRAME: usize = HEADER_BYTES + TRAILER_BYTES;
+pub const LARGEST_FRAME: usize = SMALLEST_FRAME + LARGEST_PAYLOAD;
+
+/// How many bits the fields of a header have.
+pub const ID_BITS: usize = 11;
+const WORDS_BITS: usize = 7;
+const CHECKSUM_BITS: usize = 11;
+pub const CYCLE_BITS: usize = 6;
 
 const HEADER_START_VALUE: u32 = 0x01A;
 
@@ -63,18 +69,18 @@ impl Fields {
     /// The 40 header bits, fields one after the other.
     pub fn bits(&self) -> Vec<bool> {
         let mut row = self.indicators.sent().to_vec();
-        row.extend(bits::of_number(u32::from(self.id), 11));
-        row.extend(bits::of_number(u32::from(self.words), 7));
-        row.extend(bits::of_number(u32::from(self.header_checksum), 11));
-        row.extend(bits::of_number(u32::from(self.cycle), 6));
+        row.extend(bits::of_number(u32::from(self.id), ID_BITS));
+        row.extend(bits::of_number(u32::from(self.words), WORDS_BITS));
+        row.extend(bits::of_number(u32::from(self.header_checksum), CHECKSUM_BITS));
+        row.extend(bits::of_number(u32::from(self.cycle), CYCLE_BITS));
         row
     }
 
     fn from_bits(row: &[bool]) -> Fields {
         let (indicators, row) = row.split_at(5);
-        let (id, row) = row.split_at(11);
-        let (words, row) = row.split_at(7);
-        let (header_checksum, cycle) = row.split_at(11);
+        let (id, row) = row.split_at(ID_BITS);
+        let (words, row) = row.split_at(WORDS_BITS);
+        let (header_checksum, cycle) = row.split_at(CHECKSUM_BITS);
         Fields {
             indicators: Indicators::from_sent(indicators),
             id: bits::number(id) as u16,
@@ -87,8 +93,8 @@ impl Fields {
     /// The header checksum that belongs to the other fields; only four of them are covered.
     pub fn right_header_checksum(&self) -> u16 {
         let mut covered = vec![self.indicators.sync, self.indicators.startup];
-        covered.extend(bits::of_number(u32::from(self.id), 11));
-        covered.extend(bits::of_number(u32::from(self.words), 7));
+        covered.extend(bits::of_number(u32::from(self.id), ID_BITS));
+        covered.extend(bits::of_number(u32::from(self.words), WORDS_BITS));
         HEADER.checksum(HEADER_START_VALUE, &covered) as u16
     }
 
@@ -112,33 +118,44 @@ pub fn checksum_on(channel: Channel, bytes: &[u8]) -> u32 {
     FRAME.checksum(channel.start_value(), &bits::of_bytes(bytes))
 }
 
-/// Reads a frame; refusals come in the order 1 to 8.
+/// Reads a frame.
 pub fn read(channel: u8, bytes: &[u8]) -> Result<Fields, Refusal> {
-    let channel = Channel::from_number(channel)?;
-    if bytes.len() < SMALLEST_FRAME {
-        return Err(Refusal::TooFewBytes);
+    refuse_first(&read_causes(channel, bytes))?;
+    Ok(header_in(bytes))
+}
+
+fn header_in(bytes: &[u8]) -> Fields {
+    Fields::from_bits(&bits::of_bytes(&bytes[..HEADER_BYTES]))
+}
+
+/// Every cause for a refusal of a read, in the order 1 to 8.
+pub fn read_causes(channel: u8, bytes: &[u8]) -> Vec<Refusal> {
+    let channel = Channel::from_number(channel);
+    let mut causes = holding([
+        (Refusal::Channel, channel.is_err()),
+        (Refusal::TooFewBytes, bytes.len() < SMALLEST_FRAME),
+        (Refusal::Size, bytes.len() % 2 == 1 || bytes.len() > LARGEST_FRAME),
+    ]);
+    // Fewer bytes have no whole header and no trailer.
+    if bytes.len() >= SMALLEST_FRAME {
+        causes.extend(causes_inside(channel.ok(), bytes));
     }
-    if bytes.len() % 2 == 1 || bytes.len() > LARGEST_FRAME {
-        return Err(Refusal::Size);
-    }
+    causes
+}
+
+fn causes_inside(channel: Option<Channel>, bytes: &[u8]) -> Vec<Refusal> {
+    let fields = header_in(bytes);
     let (body, trailer) = bytes.split_at(bytes.len() - TRAILER_BYTES);
-    let fields = Fields::from_bits(&bits::of_bytes(&body[..HEADER_BYTES]));
-    if fields.header_checksum != fields.right_header_checksum() {
-        return Err(Refusal::HeaderChecksum);
-    }
-    if fields.frame_size() != bytes.len() {
-        return Err(Refusal::WordsAgainstSize);
-    }
-    if fields.id == 0 {
-        return Err(Refusal::IdRead);
-    }
-    if fields.indicators.startup_without_sync() {
-        return Err(Refusal::StartupWithoutSync);
-    }
-    if bits::number(&bits::of_bytes(trailer)) != checksum_on(channel, body) {
-        return Err(Refusal::FrameChecksum);
-    }
-    Ok(fields)
+    let found = bits::number(&bits::of_bytes(trailer));
+    // On a channel that is none the checksum of either would do.
+    let differs = |other| channel.unwrap_or(other) != other || found != checksum_on(other, body);
+    holding([
+        (Refusal::HeaderChecksum, fields.header_checksum != fields.right_header_checksum()),
+        (Refusal::WordsAgainstSize, fields.frame_size() != bytes.len()),
+        (Refusal::IdRead, fields.id == 0),
+        (Refusal::StartupWithoutSync, fields.indicators.startup_without_sync()),
+        (Refusal::FrameChecksum, Channel::BOTH.into_iter().all(differs)),
+    ])
 }
 
 /// Whether some frame reads as these fields: the one made of them does, or none does. Payload and channel are free.
@@ -163,30 +180,25 @@ pub struct ToWrite {
     pub cycle: u8,
 }
 
-/// Writes a frame to the front of the output and gives its size; refusals come in the order 1, 9, 10, 11, 7, 12, 13.
+/// Writes a frame to the front of the output and gives its size.
 pub fn write(channel: u8, given: &ToWrite, payload: &[u8], output: &mut [u8]) -> Result<usize, Refusal> {
-    let channel = Channel::from_number(channel)?;
-    if given.id == 0 || given.id > HIGHEST_ID {
-        return Err(Refusal::IdGiven);
-    }
-    if payload.len() % 2 == 1 || payload.len() > LARGEST_PAYLOAD {
-        return Err(Refusal::PayloadToWrite);
-    }
-    if given.cycle > HIGHEST_CYCLE {
-        return Err(Refusal::Cycle);
-    }
-    if given.indicators.startup_without_sync() {
-        return Err(Refusal::StartupWithoutSync);
-    }
-    if given.indicators.reserved {
-        return Err(Refusal::ReservedToWrite);
-    }
-    let frame = frame_bytes(channel, &header_of(given, payload), payload);
-    if output.len() < frame.len() {
-        return Err(Refusal::Output);
-    }
+    refuse_first(&write_causes(channel, given, payload, output.len()))?;
+    let frame = frame_bytes(Channel::from_number(channel)?, &header_of(given, payload), payload);
     output[..frame.len()].copy_from_slice(&frame);
     Ok(frame.len())
+}
+
+/// Every cause for a refusal of a write, in the order 1, 9, 10, 11, 7, 12, 13.
+pub fn write_causes(channel: u8, given: &ToWrite, payload: &[u8], room: usize) -> Vec<Refusal> {
+    holding([
+        (Refusal::Channel, Channel::from_number(channel).is_err()),
+        (Refusal::IdGiven, !(1..=HIGHEST_ID).contains(&given.id)),
+        (Refusal::PayloadToWrite, payload.len() % 2 == 1 || payload.len() > LARGEST_PAYLOAD),
+        (Refusal::Cycle, given.cycle > HIGHEST_CYCLE),
+        (Refusal::StartupWithoutSync, given.indicators.startup_without_sync()),
+        (Refusal::ReservedToWrite, given.indicators.reserved),
+        (Refusal::Output, room < SMALLEST_FRAME + payload.len()),
+    ])
 }
 
 fn header_of(given: &ToWrite, payload: &[u8]) -> Fields {
@@ -213,78 +225,6 @@ pub fn frame_bytes(channel: Channel, fields: &Fields, payload: &[u8]) -> Vec<u8>
 mod tests {
     use super::*;
 
-    const HEADER_OF_01: [u8; 5] = [0x20, 0x01, 0x01, 0xA7, 0xC0];
-    const TRAILERS: [[u8; 3]; 2] = [[0xD0, 0x5E, 0xEA], [0x3B, 0xD0, 0x8F]];
-
-    fn frame_of_01(channel: usize) -> Vec<u8> {
-        [&HEADER_OF_01[..], &TRAILERS[channel][..]].concat()
-    }
-
-    #[test]
-    fn header_of_01_reads_as_listed() {
-        for channel in [0, 1] {
-            let fields = read(channel, &frame_of_01(usize::from(channel))).unwrap();
-            assert_eq!(fields.header_checksum, 0x69F);
-            assert_eq!((fields.id, fields.words, fields.cycle), (1, 0, 0));
-            assert_eq!(fields.indicators.sent(), [false, false, true, false, false]);
-        }
-    }
-
-    #[test]
-    fn header_of_01_is_refused_on_the_other_channel() {
-        assert_eq!(read(0, &frame_of_01(1)), Err(Refusal::FrameChecksum));
-        assert_eq!(read(1, &frame_of_01(0)), Err(Refusal::FrameChecksum));
-    }
-
-    #[test]
-    fn header_of_01_is_written_as_listed() {
-        let given = ToWrite { indicators: Indicators::from_flags(0b00100), id: 1, cycle: 0 };
-        for channel in [0, 1] {
-            let mut output = [0xA5; 9];
-            assert_eq!(write(channel, &given, &[], &mut output), Ok(8));
-            assert_eq!(output[..8], frame_of_01(usize::from(channel)));
-            assert_eq!(output[8], 0xA5);
-        }
-    }
-
-    #[test]
-    fn check_values_through_the_entry() {
-        assert_eq!(frame_checksum(0, b"123456789"), Ok(0x7979BD));
-        assert_eq!(frame_checksum(1, b"123456789"), Ok(0x1F23B8));
-        assert_eq!(frame_checksum(2, b"123456789"), Err(Refusal::Channel));
-    }
-
-    #[test]
-    fn sizes_of_01() {
-        for size in [0, 7] {
-            assert_eq!(read(0, &vec![0; size]), Err(Refusal::TooFewBytes));
-        }
-        for size in [9, 263, 264] {
-            assert_eq!(read(0, &vec![0; size]), Err(Refusal::Size));
-        }
-        for size in [8, 262] {
-            assert_eq!(read(0, &vec![0; size]), Err(Refusal::HeaderChecksum));
-        }
-    }
-
-    #[test]
-    fn payload_is_the_middle_or_nothing() {
-        let bytes = frame_of_01(0);
-        assert!(payload(&Err(Refusal::Size), &bytes).is_empty());
-        let given = ToWrite { indicators: Indicators::from_flags(0), id: 2047, cycle: 63 };
-        let mut output = [0; 12];
-        assert_eq!(write(1, &given, &[1, 2, 3, 4], &mut output), Ok(12));
-        assert_eq!(payload(&read(1, &output), &output), [1, 2, 3, 4]);
-    }
-
-    #[test]
-    fn a_refused_write_leaves_the_output() {
-        let given = ToWrite { indicators: Indicators::from_flags(0), id: 1, cycle: 0 };
-        let mut output = [0xA5; 7];
-        assert_eq!(write(0, &given, &[], &mut output), Err(Refusal::Output));
-        assert_eq!(output, [0xA5; 7]);
-    }
-
     /// The four covered fields stand side by side in the header: its 20 bits from the fourth on.
     #[test]
     fn header_checksum_covers_a_stretch_of_the_header() {
@@ -293,26 +233,6 @@ mod tests {
             let fields = Fields { indicators, id: 0x52B, words: 0x4D, header_checksum: 0, cycle: 21 };
             let stretch = &bits::of_bytes(&bits::to_bytes(&fields.bits()))[3..23];
             assert_eq!(u32::from(fields.right_header_checksum()), HEADER.checksum(0x01A, stretch));
-        }
-    }
-
-    #[test]
-    fn what_could_be_read() {
-        let header = |flags, id, words, cycle| {
-            let indicators = Indicators::from_flags(flags);
-            Fields { indicators, id, words, header_checksum: 0, cycle }.with_right_checksum()
-        };
-        for good in [header(0, 1, 0, 0), header(0b00111, 2047, 127, 63), header(0b11000, 5, 5, 5)] {
-            assert!(could_be_read(&good));
-            for place in 0..16 {
-                assert!(!could_be_read(&Fields { header_checksum: good.header_checksum ^ 1 << place, ..good }));
-            }
-        }
-        for bad in [header(0, 0, 0, 0), header(0, 2048, 0, 0), header(0, 2049, 0, 0), header(0b10000, 1, 0, 0)] {
-            assert!(!could_be_read(&bad));
-        }
-        for bad in [header(0, 1, 128, 0), header(0, 1, 255, 0), header(0, 1, 0, 64), header(0, 1, 0, 255)] {
-            assert!(!could_be_read(&bad));
         }
     }
 

@@ -1,6 +1,5 @@
 //! What happens in a slot, and what its status must show afterwards: told from the whole history at once.
 
-use crate::channel::Channel;
 use crate::draft::Draft;
 use crate::marks::Mark;
 use crate::plan::{Expected, Plan};
@@ -9,8 +8,25 @@ use crate::reason::Reason;
 use crate::refusal::{Refusal, READ_ORDER};
 use crate::scene::Scene;
 use crate::script::Command;
-use crate::slot_note::{First, SlotNote, Sort};
 use crate::status_numbers::{HeaderNumbers, StatusNumbers};
+
+/// Sorts of what can happen in a slot.
+#[derive(Clone, Copy, Debug, PartialEq, Eq, PartialOrd, Ord)]
+pub enum Sort {
+    NoBytes,
+    Refused,
+    Missing,
+    Good,
+    Boundary,
+    OwnSending,
+}
+
+impl Sort {
+    pub const ALL: [Sort; 6] =
+        [Sort::NoBytes, Sort::Refused, Sort::Missing, Sort::Good, Sort::Boundary, Sort::OwnSending];
+
+    pub const ARRIVALS: [Sort; 4] = [Sort::NoBytes, Sort::Refused, Sort::Missing, Sort::Good];
+}
 
 #[derive(Clone, Debug)]
 pub enum Happening {
@@ -49,17 +65,6 @@ impl Happening {
             Happening::Missing(_, draft) | Happening::Good(draft) => Command::Arrived(draft.bytes()),
             Happening::Boundary => Command::Boundary,
             Happening::OwnSending => Command::OwnSending,
-        }
-    }
-
-    fn sort(&self) -> Sort {
-        match self {
-            Happening::Refused(bytes) if bytes.is_empty() => Sort::NoBytes,
-            Happening::Refused(_) => Sort::Refused,
-            Happening::Missing(..) => Sort::Missing,
-            Happening::Good(_) => Sort::Good,
-            Happening::Boundary => Sort::Boundary,
-            Happening::OwnSending => Sort::OwnSending,
         }
     }
 
@@ -141,60 +146,21 @@ pub fn play(plan: &mut Plan, before: &StatusNumbers, history: &[Happening]) {
     for (place, happening) in history.iter().enumerate() {
         plan.add(happening.command(), Expected::line("event 0"));
         show(plan, &demanded(before, &history[..=place]));
-        for note in notes(before, &history[..place], happening) {
-            plan.note_last(note);
-        }
     }
 }
 
 /// Every event is refused on an unsound status, and leaves it as it is.
-pub fn play_refused(plan: &mut Plan, unsound: &StatusNumbers, frame: Vec<u8>, note: impl Fn(char) -> SlotNote) {
+pub fn play_refused(plan: &mut Plan, unsound: &StatusNumbers, frame: Vec<u8>) {
     for command in [Command::Arrived(frame), Command::Boundary, Command::OwnSending] {
-        let note = note(command.letter());
         plan.add(command, Expected::Refused(Refusal::NotSound));
         show(plan, unsound);
-        plan.note_last(note);
-    }
-}
-
-/// What the last event of a history shows.
-fn notes(before: &StatusNumbers, earlier: &[Happening], last: &Happening) -> Vec<SlotNote> {
-    let mut all = Vec::new();
-    let reason = first_reason(before, earlier);
-    let good = before.kept || earlier.iter().any(|happening| happening.sort() == Sort::Good);
-    match last {
-        Happening::Missing(missed, _) => {
-            all.push(miss(before.channel, reason, *missed));
-            all.extend(good.then_some(SlotNote::MissAfterGood(*missed)));
-        }
-        Happening::Good(_) => all.extend(reason.map(SlotNote::GoodAfterMiss)),
-        Happening::Refused(_) => all.extend(good.then_some(SlotNote::RefusedAfterGood)),
-        Happening::Boundary | Happening::OwnSending => (),
-    }
-    if before.marks == 0 {
-        all.extend(conflict(earlier, last.sort()));
-    }
-    all
-}
-
-fn miss(channel: Channel, first: Option<Reason>, missed: Reason) -> SlotNote {
-    first.map_or(SlotNote::FirstMiss(channel, missed), |first| SlotNote::LaterMiss(first, missed))
-}
-
-/// A conflict that the last event made, where one arrival alone has part in it.
-fn conflict(earlier: &[Happening], last: Sort) -> Option<SlotNote> {
-    let sorts: Vec<Sort> = earlier.iter().map(Happening::sort).collect();
-    let arrivals: Vec<Sort> = sorts.iter().copied().filter(|sort| sort.is_arrival()).collect();
-    match (sorts.contains(&Sort::OwnSending), &arrivals[..], last) {
-        (true, [], arrival) if arrival.is_arrival() => Some(SlotNote::Conflict(First::Sending, arrival)),
-        (false, [arrival], Sort::OwnSending) => Some(SlotNote::Conflict(First::Arriving, *arrival)),
-        _ => None,
     }
 }
 
 #[cfg(test)]
 mod tests {
     use super::*;
+    use crate::channel::Channel;
     use crate::scene::Kind;
 
     #[test]

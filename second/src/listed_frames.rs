@@ -1,6 +1,7 @@
 //! The frames that are known whole on both channels, byte by byte as they were written down.
 
 use crate::channel::Channel;
+use crate::frame::{HIGHEST_CYCLE, HIGHEST_ID, LARGEST_PAYLOAD};
 
 pub struct ListedFrame {
     pub header: [u8; 5],
@@ -43,11 +44,11 @@ pub const STARTUP: ListedFrame = ListedFrame {
 /// The longest null frame with the highest ID and cycle, all bytes of its payload 0.
 pub const LONG: ListedFrame = ListedFrame {
     header: [0x07, 0xFF, 0xFE, 0x4D, 0x7F],
-    payload: &[0; 254],
+    payload: &[0; LARGEST_PAYLOAD],
     trailers: [[0x38, 0x8F, 0xC6], [0x59, 0xBA, 0xF1]],
     flags: 0b00000,
-    id: 2047,
-    cycle: 63,
+    id: HIGHEST_ID,
+    cycle: HIGHEST_CYCLE,
     fields: "0 0 0 0 0 2047 127 309 63",
     bench_line: "accepted 2047 63 127",
 };

@@ -7,7 +7,7 @@ use crate::channel::Channel;
 use crate::clock_mixture;
 use crate::draft::{fair_words, foreign_channel, Draft};
 use crate::faults::{bench_of, faulty_bench, faulty_read, faulty_write, some_faults};
-use crate::frame::Indicators;
+use crate::frame::{Indicators, MOST_WORDS};
 use crate::random::Random;
 use crate::refusal::{READ_ORDER, WRITE_ORDER};
 use crate::script::{Command, OnChannel, LIMIT};
@@ -151,7 +151,7 @@ fn random_header(random: &mut Random) -> OnChannel {
     let fair = fair_draft(random);
     let indicators = Indicators::from_flags(random.below(32) as u8);
     let id = if random.one_in(4) { 0 } else { fair.id };
-    let words = if random.one_in(3) { random.below(128) as u8 } else { fair.words };
+    let words = if random.one_in(3) { random.below(usize::from(MOST_WORDS) + 1) as u8 } else { fair.words };
     let draft = Draft { indicators, id, words, ..fair };
     OnChannel { channel: draft.channel.number(), bytes: draft.bytes() }
 }

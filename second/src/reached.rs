@@ -1,89 +1,59 @@
-//! Counts what a script reached, and names what it should have reached and did not.
+//! Counts what a script reached, as commands, answers and showings tell it, and names what it should have reached.
+//!
+//! What is reached is told by a text, and what is demanded by one that may have choices. A text that is demanded otherwise
+//! than it is counted is never reached.
 
 mod bench;
-mod clock;
-mod clock_required;
+mod causes;
+mod choices;
+mod closing;
+mod cycles;
+mod damage;
 mod ends;
 mod frames;
+mod given;
+mod measuring;
 mod slots;
+mod soundness;
+mod stays;
+mod unlooked;
 
-use std::collections::{BTreeMap, BTreeSet};
+use std::collections::BTreeMap;
+use std::mem;
 
-use crate::answer::Answer;
-use crate::channel::Channel;
-use crate::clock_note::Last;
-use crate::plan::{Note, Plan};
-use crate::refusal::Refusal;
+use crate::answer::{Answer, Held};
+use crate::clock_numbers::ClockNumbers;
+use crate::clock_scene::Last;
+use crate::history::Sort;
+use crate::plan::Plan;
 use crate::replay::Outcome;
-use crate::script::Command;
-
-pub use bench::BenchReach;
-pub use clock::ClockReach;
-pub use ends::EndReach;
-
-#[derive(Clone, Copy, Debug, PartialEq, Eq, PartialOrd, Ord)]
-pub enum Reach {
-    /// Letter of the entry and number of the answer.
-    Answer(char, u8),
-    /// Letter of the entry and a channel number that is neither channel's.
-    ForeignChannel(char, u8),
-    SizeRead(usize),
-    SizeAccepted(u8, usize),
-    /// One of the five leading bits of an accepted frame, by its place.
-    IndicatorRead(usize, bool),
-    AllIndicatorsRead(u8),
-    AllIndicatorsRefused(u8),
-    IdRead(u16),
-    CycleRead(u8),
-    SizeWritten(u8, usize),
-    AllIndicatorsWritten(u8),
-    UnnamedFlagsWritten(u8),
-    IdWritten(u16),
-    CycleWritten(u8),
-    IdNotWritten(u16),
-    PayloadNotWritten(usize),
-    CycleNotWritten(u8),
-    RoomExact,
-    RoomLarger,
-    RoomOneShort,
-    RoomZero,
-    Bench(BenchReach),
-    FieldOpened(usize, u32),
-    FieldNotOpened(usize, u32),
-    SyncSenderOpened(bool),
-    SlotOpened(u8, u16),
-    SlotNotOpened(u16),
-    CycleOpened(u8),
-    CycleNotOpened(u8),
-    /// Marks shown where nothing but events followed an opening.
-    MarksFromOpening(Channel, u8),
-    /// The content reason shown there, 0 for none.
-    ReasonFromOpening(Channel, u8),
-    /// One of the five leading bits of a frame kept there, by its place.
-    IndicatorKept(usize, bool),
-    /// Letter and number of an answer that isn't about a slot, after which the status that was held is shown, and has marks.
-    StatusStayed(char, u8),
-    /// Letter and number of an answer that isn't about the clock, after which the state that was held is shown, and lists
-    /// something.
-    ClockStayed(char, u8),
-    Clock(ClockReach),
-    Noted(Note),
-    ScriptError,
-    /// Reached by a small script.
-    End(EndReach),
-}
+use crate::script::{Cause, Command, OnChannel};
+use crate::status_numbers::StatusNumbers;
+use stays::{Origin, Subject};
 
 #[derive(Default)]
 pub struct Reached {
-    counts: BTreeMap<Reach, usize>,
-    /// The status held comes from an opening, and was not put.
-    from_opening: bool,
-    /// Letters and numbers of the answers since the last command that can change the status.
-    beside_status: BTreeSet<(char, u8)>,
-    /// The same for the clock state.
-    beside_clock: BTreeSet<(char, u8)>,
-    /// The last closed cycle of the clock state held.
-    last_closed: Option<u8>,
+    counts: BTreeMap<String, usize>,
+    /// What was reached though 01 leaves no way to it.
+    pub impossible: Vec<String>,
+    /// Letters of entries and numbers of answers, with how often they were given.
+    answers: BTreeMap<(char, u8), usize>,
+    /// How often small scripts ended by each cause, and by none.
+    ends: BTreeMap<Option<Cause>, usize>,
+    /// Both states as the next command finds them.
+    held: Held,
+    /// For each subject what counts as soon as its state is shown, and not if another command changes it before.
+    unshown: [Vec<String>; 2],
+    /// The last frame that was read, and the last one that was written.
+    read: Option<OnChannel>,
+    written: Option<Vec<u8>>,
+    status_from: Origin,
+    clock_from: Origin,
+    /// What happened since the slot was opened.
+    history: Vec<Sort>,
+    /// The numbers from which the states that are held were made.
+    put_status: Option<StatusNumbers>,
+    put_clock: Option<ClockNumbers>,
     /// What the last closed cycle was when an odd cycle was opened, until another one is.
     odd_opened: Option<Last>,
 }
@@ -91,17 +61,14 @@ pub struct Reached {
 impl Reached {
     pub fn count(plan: &Plan, outcomes: &[Outcome]) -> Reached {
         let mut reached = Reached::default();
-        for outcome in outcomes {
-            reached.add_outcome(outcome);
-        }
-        for entry in &plan.entries {
-            entry.notes.iter().for_each(|note| reached.add(Reach::Noted(*note)));
-        }
+        outcomes.iter().for_each(|outcome| reached.add_outcome(outcome));
+        plan.entries.iter().for_each(|entry| reached.add_damage(entry));
         reached
     }
 
-    pub fn missing(&self) -> Vec<Reach> {
-        required().into_iter().filter(|reach| !self.counts.contains_key(reach)).collect()
+    pub fn missing(&self) -> Vec<String> {
+        let demanded = required().into_iter().flat_map(|text| choices::expand(&text));
+        demanded.filter(|reach| !self.counts.contains_key(reach)).collect()
     }
 
     /// How often each entry gave each number, one line per entry, and how the small scripts ended.
@@ -112,71 +79,112 @@ impl Reached {
     }
 
     fn summary_of(&self, letter: char) -> String {
-        let numbers = self.counts.iter().filter_map(|(reach, count)| match reach {
-            Reach::Answer(entry, number) if *entry == letter => Some(format!(" {number}: {count}")),
-            _ => None,
-        });
-        format!("{letter} {}", numbers.collect::<Vec<String>>().join(","))
+        let of_entry = self.answers.iter().filter(|((entry, _), _)| *entry == letter);
+        let numbers: Vec<String> = of_entry.map(|((_, number), count)| format!(" {number}: {count}")).collect();
+        format!("{letter} {}", numbers.join(","))
     }
 
-    fn add(&mut self, reach: Reach) {
+    fn add(&mut self, reach: String) {
         *self.counts.entry(reach).or_default() += 1;
+    }
+
+    /// What an entry reached; where it leaves a state, it counts once that is shown.
+    fn add_of(&mut self, letter: char, reach: String) {
+        match Subject::of(letter) {
+            None => self.add(reach),
+            Some(subject) => self.unshown[subject as usize].push(reach),
+        }
     }
 
     fn add_outcome(&mut self, outcome: &Outcome) {
         let Outcome::Answered(command, answer) = outcome else {
-            return self.add(Reach::ScriptError);
+            return self.add("script error".to_string());
         };
-        self.add(Reach::Answer(command.letter(), answer.number()));
-        self.follow_status(command, answer);
-        self.follow_clock(command, answer);
+        let letter = command.letter();
+        *self.answers.entry((letter, answer.number())).or_default() += 1;
+        if let Some(subject) = Subject::of(letter) {
+            self.unshown[subject as usize].clear();
+        }
+        for text in causes::texts(letter, &command.causes(&self.held)) {
+            self.add_of(letter, text);
+        }
+        self.add_given(command, answer);
+        self.add_stayed(letter, answer.number());
+        self.add_soundness(letter, answer);
         match command {
-            Command::Checksum(given) => self.add_channel('F', given.channel),
+            Command::Checksum(given) => self.add_checksum(given, answer),
             Command::Read(given) => self.add_read(given, answer),
-            Command::Write(write) => self.add_write(write, answer.refusal()),
+            Command::Write(write) => self.add_write(write, answer),
             Command::Bench(input) => self.add_bench(input, answer),
-            Command::OpenSlot(opening) => self.add_opening(opening, answer),
-            Command::PutStatus(_) => self.add_put(),
-            Command::PutClock(numbers) => self.add_put_clock(numbers),
-            Command::Load(settings) => self.add_load(settings, answer),
+            Command::OpenSlot(_) => self.add_opening(answer),
+            Command::Arrived(_) | Command::Boundary | Command::OwnSending => self.add_event(command, answer),
+            Command::PutStatus(numbers) => self.add_put_status(numbers),
+            Command::Load(_) => self.add_load(answer),
             Command::OpenCycle(cycle) => self.add_open_cycle(*cycle, answer),
-            Command::Measure(times) => self.add_measure(times, answer),
-            Command::CloseCycle(controls) => self.add_close(*controls, answer),
-            _ => (),
+            Command::Measure(times) => self.add_measure(*times, answer),
+            Command::CloseCycle(_) => self.add_close(answer),
+            Command::PutClock(numbers) => self.add_put_clock(numbers),
+            Command::Show => self.add_shown(),
         }
-        if let Answer::Shown(clock, status) = answer {
-            self.add_shown_clock(clock);
-            self.add_shown(status);
-        }
+        Answer::to(command, &mut self.held);
+    }
+
+    fn add_shown(&mut self) {
+        mem::take(&mut self.unshown).into_iter().flatten().for_each(|reach| self.add(reach));
+        self.add_shown_status();
     }
 }
 
-fn required() -> Vec<Reach> {
-    let mut all = vec![Reach::ScriptError];
+fn required() -> Vec<String> {
+    let mut all = vec!["script error".to_string()];
+    all.extend(causes::required());
+    all.extend(given::required());
+    all.extend(stays::required());
     all.extend(frames::required());
+    all.extend(damage::required());
     all.extend(bench::required());
-    all.extend(ends::required());
     all.extend(slots::required());
-    all.extend(clock_required::all());
+    all.extend(soundness::required());
+    all.extend(unlooked::required());
+    all.extend(cycles::required());
+    all.extend(measuring::required());
+    all.extend(closing::required());
+    all.extend(ends::required());
     all
 }
 
-/// Every two causes of an entry that can stand together, the first in its order named first.
-fn coincidences(letter: char, order: &[Refusal]) -> Vec<Note> {
-    let mut all = Vec::new();
-    for (place, first) in order.iter().enumerate() {
-        let later = order[place + 1..].iter().filter(|later| can_stand_together(*first, **later));
-        all.extend(later.map(|later| Note::Coincidence(letter, *first, *later)));
+#[cfg(test)]
+mod tests {
+    use super::*;
+    use crate::plan::Expected;
+    use crate::random::Random;
+    use crate::replay::Replay;
+    use crate::scene::Scene;
+
+    fn reaches(commands: &[&Command], text: &str) -> bool {
+        let mut plan = Plan::default();
+        commands.iter().for_each(|command| plan.add((*command).clone(), Expected::Anything));
+        let outcomes: Vec<Outcome> = Replay::of(&plan.script()).collect();
+        Reached::count(&plan, &outcomes).counts.contains_key(text)
     }
-    all
-}
 
-/// Fewer than 8 bytes have no whole header and no trailer, so that besides 2 only their size can be a cause. An ID that
-/// was measured already is listed, so that there is a place for it.
-fn can_stand_together(first: Refusal, later: Refusal) -> bool {
-    match (first, later) {
-        (Refusal::TooFewBytes, later) => later == Refusal::Size,
-        (Refusal::MeasuredAlready, Refusal::ListFull) => false,
-        _ => true,
+    #[test]
+    fn what_leaves_a_state_counts_once_that_is_shown_unchanged() {
+        let open = Scene::any(&mut Random::from_seed(4)).open();
+        let (frame, event, show) = (Command::checksum(0, &[]), Command::OwnSending, Command::Show);
+        for commands in [&[&open, &event, &frame, &show][..], &[&open, &event, &show, &frame, &frame, &show]] {
+            assert!(reaches(commands, "Status stays beside F 0"));
+            assert!(reaches(commands, "X with causes for []"));
+        }
+        for commands in [
+            &[&open, &event, &show, &frame][..],
+            &[&open, &frame, &show],
+            &[&open, &frame, &show, &event, &show],
+            &[&open, &event, &frame, &event, &show],
+        ] {
+            assert!(!reaches(commands, "Status stays beside F 0"));
+        }
+        assert!(!reaches(&[&open, &event, &open, &show], "X with causes for []"));
+        assert!(reaches(&[&frame], "F with causes for []"));
     }
 }

@@ -76,6 +76,16 @@ impl Refusal {
     }
 }
 
+/// The refusals whose condition holds, in the order in which they stand.
+pub fn holding<const N: usize>(conditions: [(Refusal, bool); N]) -> Vec<Refusal> {
+    conditions.into_iter().filter(|(_, holds)| *holds).map(|(refusal, _)| refusal).collect()
+}
+
+/// 01 "Refusal numbers": of the causes that an entry finds, the first in its order is the answer.
+pub fn refuse_first(causes: &[Refusal]) -> Result<(), Refusal> {
+    causes.first().map_or(Ok(()), |first| Err(*first))
+}
+
 #[cfg(test)]
 mod tests {
     use super::*;

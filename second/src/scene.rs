@@ -12,6 +12,7 @@ use crate::reason::Reason;
 use crate::refusal::Refusal;
 use crate::script::{Command, Opening};
 use crate::settings::{Settings, RANGES, STATIC_SLOTS, STATIC_WORDS};
+use crate::slot::SlotStatus;
 use crate::status_numbers::{HeaderNumbers, StatusNumbers};
 
 #[derive(Clone, Copy, Debug, PartialEq, Eq, PartialOrd, Ord)]
@@ -22,6 +23,14 @@ pub enum Kind {
 
 impl Kind {
     pub const BOTH: [Kind; 2] = [Kind::Static, Kind::Dynamic];
+
+    pub fn of(status: &SlotStatus) -> Kind {
+        if status.is_static() {
+            Kind::Static
+        } else {
+            Kind::Dynamic
+        }
+    }
 
     /// The tests that a frame can miss in such a slot.
     pub fn tests(self) -> &'static [Reason] {

@@ -1,28 +1,48 @@
 //! The commands of a script.
 
-mod building;
-mod taking;
+mod layout;
 
 use crate::clock::Times;
 use crate::clock_numbers::ClockNumbers;
 use crate::closing::Controls;
-use crate::frame::{Indicators, ToWrite};
+use crate::frame::{self, Fields, Indicators, ToWrite};
 use crate::settings::Settings;
 use crate::status_numbers::StatusNumbers;
 
-pub use taking::{Broken, Cause, Rest};
+pub use layout::Rest;
 
 /// The highest size or room that a script may name.
 pub const LIMIT: usize = 600;
 
+/// What ends a run before the script's end, in the words and the order of REPLAY.md.
+#[derive(Clone, Copy, Debug, PartialEq, Eq, PartialOrd, Ord)]
+pub enum Cause {
+    UnknownLetter,
+    SizeAbove,
+    RoomAbove,
+    WrongSwitch,
+    ReasonAbove,
+    EndInside,
+}
+
+/// Where and why a script is broken.
+#[derive(Clone, Copy, Debug, PartialEq, Eq)]
+pub struct Broken {
+    pub cause: Cause,
+    /// That of the command at fault, which may be none that a command has.
+    pub letter: char,
+    /// The place of the last byte that was taken, the letter at place 0.
+    pub place: usize,
+}
+
 /// Bytes handed in on a channel given by its number.
-#[derive(Clone, Debug, PartialEq, Eq)]
+#[derive(Clone, Debug, Default, PartialEq, Eq)]
 pub struct OnChannel {
     pub channel: u8,
     pub bytes: Vec<u8>,
 }
 
-#[derive(Clone, Debug, PartialEq, Eq)]
+#[derive(Clone, Debug, Default, PartialEq, Eq)]
 pub struct Write {
     pub channel: u8,
     pub flags: u8,
@@ -33,13 +53,21 @@ pub struct Write {
 }
 
 impl Write {
+    /// All that a read of these bytes gives, in a room for just that.
+    pub fn again(read: &OnChannel) -> Option<Write> {
+        let answer = frame::read(read.channel, &read.bytes);
+        let payload = frame::payload(&answer, &read.bytes).to_vec();
+        let Fields { indicators, id, cycle, .. } = answer.ok()?;
+        Some(Write { channel: read.channel, flags: indicators.flags(), id, cycle, payload, room: read.bytes.len() })
+    }
+
     pub fn given(&self) -> ToWrite {
         ToWrite { indicators: Indicators::from_flags(self.flags), id: self.id, cycle: self.cycle }
     }
 }
 
 /// What a slot is opened with; unlike that of a status, the channel may be any number.
-#[derive(Clone, Copy, Debug, PartialEq, Eq)]
+#[derive(Clone, Copy, Debug, Default, PartialEq, Eq)]
 pub struct Opening {
     pub settings: Settings,
     pub channel: u8,
@@ -85,6 +113,29 @@ impl Command {
         Command::PutClock(Box::new(*numbers))
     }
 
+    /// The command of a letter, with nothing in it.
+    fn blank(letter: char) -> Option<Command> {
+        let command = match letter {
+            'F' => Command::Checksum(OnChannel::default()),
+            'R' => Command::Read(OnChannel::default()),
+            'W' => Command::Write(Write::default()),
+            'P' => Command::Bench(Vec::new()),
+            'S' => Command::OpenSlot(Opening::default()),
+            'A' => Command::Arrived(Vec::new()),
+            'B' => Command::Boundary,
+            'X' => Command::OwnSending,
+            'T' => Command::PutStatus(StatusNumbers::default()),
+            'L' => Command::Load(Settings::default()),
+            'O' => Command::OpenCycle(0),
+            'M' => Command::Measure(Times::default()),
+            'C' => Command::CloseCycle(Controls::NONE),
+            'K' => Command::PutClock(Box::default()),
+            'D' => Command::Show,
+            _ => return None,
+        };
+        Some(command)
+    }
+
     pub fn letter(&self) -> char {
         match self {
             Command::Checksum(_) => 'F',
@@ -112,11 +163,12 @@ mod tests {
     use crate::channel::Channel;
     use crate::clock_numbers::{ListNumbers, RowNumbers};
     use crate::status_numbers::HeaderNumbers;
+    use crate::sync_list::PLACES;
 
     #[test]
     fn write_command_by_hand() {
         let script = b"W\x01\x1C\x02\x03\x04\x02\x00\xEE\xFF\x58\x02";
-        let write = Write { channel: 1, flags: 0x1C, id: 0x302, cycle: 4, payload: vec![0xEE, 0xFF], room: 600 };
+        let write = Write { channel: 1, flags: 0x1C, id: 0x302, cycle: 4, payload: vec![0xEE, 0xFF], room: LIMIT };
         assert_eq!(Rest::of(script).take_command(), Ok(Command::Write(write.clone())));
         let mut built = Vec::new();
         Command::Write(write).append_to(&mut built);
@@ -203,7 +255,7 @@ mod tests {
         let mut script = [b"K", sheet, b"\x00\x41\x01\x42\xFE\xFF\xFF\xFF"].concat();
         for (count, first) in [(0xFF, 1), (3, 0x11)] {
             script.push(count);
-            for place in 0..14 {
+            for place in 0..PLACES as u8 - 1 {
                 script.extend([&[first + place, 0, 1, place], &[0; 7][..]].concat());
             }
             script.extend(b"\x21\x43\xFC\x04\x03\x02\x01\xFF\xFF\xFF\x7F");
@@ -214,8 +266,8 @@ mod tests {
     fn clock_numbers(settings: Settings) -> ClockNumbers {
         let list = |count, first| {
             let last = RowNumbers { id: 0x4321, seen: 0xFC, deviations: [0x01020304, 0x7FFFFFFF] };
-            let mut rows = [last; 15];
-            for (place, row) in rows.iter_mut().enumerate().take(14) {
+            let mut rows = [last; PLACES];
+            for (place, row) in rows.iter_mut().enumerate().take(PLACES - 1) {
                 *row = RowNumbers { id: first + place as u16, seen: 1, deviations: [place as i32, 0] };
             }
             ListNumbers { count, rows }

@@ -2,6 +2,9 @@
 
 use std::ops::RangeInclusive;
 
+use crate::frame::MOST_WORDS;
+use crate::sync_list::PLACES;
+
 pub const FIELDS: usize = 11;
 
 /// Fields 1 to 9, all of them about the clock.
@@ -21,9 +24,30 @@ pub const STATIC_WORDS: usize = 10;
 /// Field 11: the last static slot.
 pub const STATIC_SLOTS: usize = 11;
 
+pub const HIGHEST_CORRECTION: u32 = 255;
+pub const HIGHEST_DELAY: u32 = 255;
+pub const FEWEST_SYNC_IDS: u32 = 2;
+pub const HIGHEST_OFFSET_LIMIT: u32 = 20_000;
+pub const HIGHEST_RATE_LIMIT: u32 = 4_000;
+pub const HIGHEST_DAMPING: u32 = 20;
+pub const HIGHEST_UNIT: u32 = 31;
+pub const FEWEST_STATIC_SLOTS: u32 = 2;
+pub const MOST_STATIC_SLOTS: u32 = 1023;
+
 /// 01 "Settings sheet": lowest and highest value of each field, field 1 first.
-pub const RANGES: [RangeInclusive<u32>; FIELDS] =
-    [0..=255, 0..=255, 0..=255, 2..=15, 0..=20_000, 0..=4_000, 0..=20, 0..=31, 0..=31, 0..=127, 2..=1023];
+pub const RANGES: [RangeInclusive<u32>; FIELDS] = [
+    0..=HIGHEST_CORRECTION,
+    0..=HIGHEST_DELAY,
+    0..=HIGHEST_DELAY,
+    FEWEST_SYNC_IDS..=PLACES as u32,
+    0..=HIGHEST_OFFSET_LIMIT,
+    0..=HIGHEST_RATE_LIMIT,
+    0..=HIGHEST_DAMPING,
+    0..=HIGHEST_UNIT,
+    0..=HIGHEST_UNIT,
+    0..=MOST_WORDS as u32,
+    FEWEST_STATIC_SLOTS..=MOST_STATIC_SLOTS,
+];
 
 /// Lowest and highest value of a field by its number.
 pub fn ends(field: usize) -> (u32, u32) {
@@ -66,10 +90,13 @@ impl Settings {
         format!("{fields} {}", u8::from(self.sends_sync))
     }
 
-    /// The number of the first field that is out of its range, if one is.
+    /// The numbers of the fields that are out of their range.
+    pub fn out_of_range(&self) -> Vec<usize> {
+        (1..=FIELDS).filter(|field| !RANGES[field - 1].contains(&self.field(*field))).collect()
+    }
+
     pub fn first_out_of_range(&self) -> Option<usize> {
-        let place = self.fields.iter().zip(&RANGES).position(|(value, range)| !range.contains(value))?;
-        Some(place + 1)
+        self.out_of_range().first().copied()
     }
 }
 

@@ -2,7 +2,7 @@
 
 use crate::faults::{faulty_opening, some_faults, wrong_value};
 use crate::frame::Fields;
-use crate::history::{with_conflict, Happening};
+use crate::history::{with_conflict, Happening, Sort};
 use crate::mixture::{any_size, damaged};
 use crate::random::Random;
 use crate::reason::Reason;
@@ -10,7 +10,6 @@ use crate::refusal::OPEN_SLOT_ORDER;
 use crate::scene::Scene;
 use crate::script::Command;
 use crate::settings::{Settings, FIELDS};
-use crate::slot_note::Sort;
 use crate::status_numbers::{HeaderNumbers, StatusNumbers};
 
 const MOST_EVENTS: usize = 8;

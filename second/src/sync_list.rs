@@ -4,13 +4,16 @@ use std::collections::{BTreeMap, BTreeSet};
 use std::ops::RangeInclusive;
 
 use crate::channel::Channel;
+use crate::clock::LATEST;
 use crate::frame::HIGHEST_ID;
+use crate::settings::{HIGHEST_CORRECTION, HIGHEST_DELAY};
 
 /// The most different IDs that a list has places for, the highest value of field 4.
 pub const PLACES: usize = 15;
 
-/// 01 "Clock": the range of a deviation, in microticks.
-pub const DEVIATIONS: RangeInclusive<i32> = -1_280_510..=1_280_000;
+/// 01 "Clock": the range of a deviation, in microticks: the latest action point with nothing observed until then and the
+/// longest correction and delay, and the latest time with none of them.
+pub const DEVIATIONS: RangeInclusive<i32> = -((LATEST + HIGHEST_CORRECTION + HIGHEST_DELAY) as i32)..=LATEST as i32;
 
 /// One ID with its deviations. Only a list that was put can have an ID without any.
 #[derive(Clone, Debug, Default, PartialEq, Eq)]
@@ -65,39 +68,5 @@ impl SyncList {
         u32::from(self.count()) <= limit
             && different.len() == usize::from(self.count())
             && self.sightings.iter().all(Sighting::is_sound)
-    }
-}
-
-#[cfg(test)]
-mod tests {
-    use super::*;
-
-    fn list(ids: &[u16]) -> SyncList {
-        ids.iter().fold(SyncList::default(), |list, id| list.with(*id, Channel::A, 0))
-    }
-
-    #[test]
-    fn new_ids_come_last_and_known_ones_stay_in_their_places() {
-        let list = list(&[9, 4]).with(9, Channel::B, -3).with(5, Channel::B, 7);
-        let ids: Vec<u16> = list.sightings.iter().map(|sighting| sighting.id).collect();
-        assert_eq!(ids, [9, 4, 5]);
-        assert_eq!(list.sightings[0].deviations, BTreeMap::from([(Channel::A, 0), (Channel::B, -3)]));
-        assert!(list.has(5, Channel::B) && !list.has(5, Channel::A) && !list.has(6, Channel::A));
-    }
-
-    #[test]
-    fn soundness_of_a_list() {
-        assert!(list(&[]).is_sound(2) && list(&[1, 2047]).is_sound(2));
-        for (ids, limit) in [(&[1, 2, 3][..], 2), (&[0], 2), (&[2048], 2)] {
-            assert!(!list(ids).is_sound(limit));
-        }
-        let one = Sighting { id: 1, deviations: BTreeMap::from([(Channel::B, 0)]) };
-        let twice = SyncList { sightings: vec![one.clone(), one.clone()], unplaced: 0 };
-        let unseen = SyncList { sightings: vec![Sighting { id: 1, ..Sighting::default() }], unplaced: 0 };
-        let uncounted = SyncList { sightings: vec![one], unplaced: 1 };
-        assert!(!twice.is_sound(15) && !unseen.is_sound(15) && !uncounted.is_sound(15));
-        for (deviation, sound) in [(-1_280_510, true), (-1_280_511, false), (1_280_000, true), (1_280_001, false)] {
-            assert_eq!(list(&[1]).with(2, Channel::B, deviation).is_sound(2), sound);
-        }
     }
 }

@@ -37,9 +37,8 @@ pub fn build() -> Result<Vectors, String> {
     if !missing.is_empty() {
         return Err(format!("not reached: {missing:?}"));
     }
-    let impossible = reached.impossible();
-    if !impossible.is_empty() {
-        return Err(format!("reached, though 01 leaves no way there: {impossible:?}"));
+    if !reached.impossible.is_empty() {
+        return Err(format!("reached, though 01 leaves no way there: {:?}", reached.impossible));
     }
     let text = replay::text(&script);
     let summary = format!("{} commands\n{}", outcomes.len(), reached.summary());

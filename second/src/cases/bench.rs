@@ -1,23 +1,20 @@
 //! The bench program's lines: inputs listed in 01, every refusal, every size, and numbers of every length.
 
+use crate::bench::LONGEST_INPUT;
 use crate::channel::Channel;
-use crate::draft::Draft;
+use crate::draft::{Draft, FOREIGN_CHANNELS};
 use crate::faults::{faulty_bench, selections};
-use crate::frame::{LARGEST_FRAME, MOST_WORDS, SMALLEST_FRAME};
+use crate::frame::{HIGHEST_CYCLE, HIGHEST_ID, LARGEST_FRAME, MOST_WORDS, SMALLEST_FRAME};
 use crate::listed_frames::{self, LONG, SHORT};
-use crate::plan::{Expected, Note, Plan};
+use crate::plan::{Expected, Plan};
 use crate::random::Random;
 use crate::refusal::READ_ORDER;
 use crate::script::{Command, LIMIT};
 
-/// What the notes say of listed inputs.
-pub const NUMBERS: [&str; 5] =
-    ["short bench inputs", "bench refusals", "listed frames on the bench", "bench sizes", "beyond 263 bytes"];
-
 const NULL_FRAME_BIT: u8 = 0b00100;
 
 pub fn add(plan: &mut Plan, random: &mut Random) {
-    add_short(plan);
+    SHORT_INPUTS.iter().for_each(|(input, line)| add_listed(plan, input, line));
     for channel in Channel::BOTH {
         add_listed_frames(plan, channel);
         add_each_refusal(plan, channel);
@@ -25,7 +22,7 @@ pub fn add(plan: &mut Plan, random: &mut Random) {
         add_beyond(plan, random, channel.number(), "refused 3");
         add_numbers(plan, channel);
     }
-    for channel in FOREIGN {
+    for channel in FOREIGN_CHANNELS {
         add_beyond(plan, random, channel, "refused 1");
     }
     add_foreign_channels(plan, random);
@@ -40,29 +37,21 @@ pub fn add(plan: &mut Plan, random: &mut Random) {
     }
 }
 
-/// Some of the channel numbers that are neither channel's.
-const FOREIGN: [u8; 4] = [2, 3, 128, 255];
-
-fn add_listed(plan: &mut Plan, input: &[u8], line: &str, number: &'static str) {
-    plan.add_noted(Command::Bench(input.to_vec()), Expected::line(line), Note::Number(number));
+fn add_listed(plan: &mut Plan, input: &[u8], line: &str) {
+    plan.add(Command::Bench(input.to_vec()), Expected::line(line));
 }
 
 /// No input at all, one byte, and 01's two.
-fn add_short(plan: &mut Plan) {
-    let cases: [(&[u8], &str); 8] = [
-        (&[], "refused 1"),
-        (&[0x00], "refused 2"),
-        (&[0x01], "refused 2"),
-        (&[0x02], "refused 1"),
-        (&[0xFF], "refused 1"),
-        (&[0x00, 0x20], "refused 2"),
-        (&[0x01, 0x20], "refused 2"),
-        (&[0x20, 0x00], "refused 1"),
-    ];
-    for (input, line) in cases {
-        add_listed(plan, input, line, NUMBERS[0]);
-    }
-}
+pub const SHORT_INPUTS: [(&[u8], &str); 8] = [
+    (&[], "refused 1"),
+    (&[0x00], "refused 2"),
+    (&[0x01], "refused 2"),
+    (&[0x02], "refused 1"),
+    (&[0xFF], "refused 1"),
+    (&[0x00, 0x20], "refused 2"),
+    (&[0x01, 0x20], "refused 2"),
+    (&[0x20, 0x00], "refused 1"),
+];
 
 fn on(channel: u8, frame: &[u8]) -> Vec<u8> {
     [&[channel], frame].concat()
@@ -72,10 +61,10 @@ fn on(channel: u8, frame: &[u8]) -> Vec<u8> {
 fn add_listed_frames(plan: &mut Plan, channel: Channel) {
     for frame in listed_frames::ALL {
         let bytes = frame.bytes(channel);
-        add_listed(plan, &on(channel.number(), &bytes), frame.bench_line, NUMBERS[2]);
-        add_listed(plan, &on(channel.other().number(), &bytes), "refused 8", NUMBERS[2]);
-        for foreign in FOREIGN {
-            add_listed(plan, &on(foreign, &bytes), "refused 1", NUMBERS[2]);
+        add_listed(plan, &on(channel.number(), &bytes), frame.bench_line);
+        add_listed(plan, &on(channel.other().number(), &bytes), "refused 8");
+        for foreign in FOREIGN_CHANNELS {
+            add_listed(plan, &on(foreign, &bytes), "refused 1");
         }
     }
 }
@@ -94,7 +83,7 @@ fn add_each_refusal(plan: &mut Plan, channel: Channel) {
         (channel.number(), Draft { frame_checksum_change: 1, ..good }.bytes(), "refused 8"),
     ];
     for (number, frame, line) in cases {
-        add_listed(plan, &on(number, &frame), line, NUMBERS[1]);
+        add_listed(plan, &on(number, &frame), line);
     }
 }
 
@@ -103,19 +92,19 @@ fn add_sizes_of_01(plan: &mut Plan, channel: Channel) {
     let short = [(0, "refused 2"), (6, "refused 2"), (7, "refused 2"), (8, SHORT.bench_line), (9, "refused 3")];
     let long = [(261, "refused 3"), (262, LONG.bench_line), (263, "refused 3"), (264, "refused 3")];
     for (size, line) in short {
-        add_listed(plan, &on(channel.number(), &SHORT.sized(channel, size)), line, NUMBERS[3]);
+        add_listed(plan, &on(channel.number(), &SHORT.sized(channel, size)), line);
     }
     for (size, line) in long {
-        add_listed(plan, &on(channel.number(), &LONG.sized(channel, size)), line, NUMBERS[3]);
+        add_listed(plan, &on(channel.number(), &LONG.sized(channel, size)), line);
     }
 }
 
-/// More than 263 input bytes, a good frame at the front of them or not.
+/// More input bytes than the longest, a good frame at the front of them or not.
 fn add_beyond(plan: &mut Plan, random: &mut Random, channel: u8, line: &str) {
-    for size in [264, 265, 266, 520, LIMIT - 1, LIMIT] {
+    for size in [LONGEST_INPUT + 1, LONGEST_INPUT + 2, LONGEST_INPUT + 3, 520, LIMIT - 1, LIMIT] {
         let good = LONG.sized(Channel::A, size - 1);
         for frame in [good, random.bytes(size - 1)] {
-            add_listed(plan, &on(channel, &frame), line, NUMBERS[4]);
+            add_listed(plan, &on(channel, &frame), line);
         }
     }
 }
@@ -134,13 +123,13 @@ fn add_numbers(plan: &mut Plan, channel: Channel) {
             }
         }
     }
-    for id in [9, 20, 99, 101, 110, 999, 1001, 1010, 2000, 2047] {
+    for id in [9, 20, 99, 101, 110, 999, 1001, 1010, 2000, HIGHEST_ID] {
         add_accepted(plan, &Draft::plain(channel, NULL_FRAME_BIT, id, 5, 7));
     }
-    for cycle in [1, 11, 20, 60, 63] {
+    for cycle in [1, 11, 20, 60, HIGHEST_CYCLE] {
         add_accepted(plan, &Draft::plain(channel, NULL_FRAME_BIT, 305, 6, cycle));
     }
-    for words in [1, 20, 99, 101, 110, 120, 127] {
+    for words in [1, 20, 99, 101, 110, 120, MOST_WORDS] {
         add_accepted(plan, &Draft::plain(channel, NULL_FRAME_BIT, 8, words, 30));
     }
 }

@@ -1,8 +1,8 @@
 //! Frame checksums: sizes, channels and plain patterns.
 
 use crate::channel::Channel;
-use crate::draft::Draft;
-use crate::frame::TRAILER_BYTES;
+use crate::draft::{Draft, FOREIGN_CHANNELS};
+use crate::frame::{LARGEST_FRAME, MOST_WORDS, TRAILER_BYTES};
 use crate::plan::{Expected, Plan};
 use crate::random::Random;
 use crate::refusal::Refusal;
@@ -24,8 +24,8 @@ fn add_foreign_channels(plan: &mut Plan, random: &mut Random) {
     for channel in 2..=255 {
         plan.add(Command::checksum(channel, &random.bytes(5)), Expected::Refused(Refusal::Channel));
     }
-    for channel in [2, 3, 128, 255] {
-        for size in [0, 1, 262, LIMIT] {
+    for channel in FOREIGN_CHANNELS {
+        for size in [0, 1, LARGEST_FRAME, LIMIT] {
             plan.add(Command::checksum(channel, &random.bytes(size)), Expected::Refused(Refusal::Channel));
         }
     }
@@ -33,10 +33,7 @@ fn add_foreign_channels(plan: &mut Plan, random: &mut Random) {
 
 /// Nothing to divide leaves the start value.
 fn add_empty(plan: &mut Plan, channel: Channel) {
-    let start = match channel {
-        Channel::A => 0xFEDCBA,
-        Channel::B => 0xABCDEF,
-    };
+    let start = channel.start_value();
     plan.add(Command::checksum(channel.number(), &[]), Expected::Line(format!("checksum 0 {start}")));
 }
 
@@ -44,7 +41,7 @@ fn add_patterns(plan: &mut Plan, channel: Channel) {
     for value in 0..=255 {
         plan.add(Command::checksum(channel.number(), &[value]), Expected::Accepted);
     }
-    for size in [2, 3, 4, 259, LIMIT] {
+    for size in [2, 3, 4, LARGEST_FRAME - TRAILER_BYTES, LIMIT] {
         for value in [0x00, 0xFF] {
             plan.add(Command::checksum(channel.number(), &vec![value; size]), Expected::Accepted);
         }
@@ -52,7 +49,7 @@ fn add_patterns(plan: &mut Plan, channel: Channel) {
 }
 
 fn add_sizes(plan: &mut Plan, random: &mut Random, channel: Channel) {
-    let sizes = (0..=40).chain([255, 256, 257, 599, LIMIT]);
+    let sizes = (0..=40).chain([255, 256, 257, LIMIT - 1, LIMIT]);
     let chosen: Vec<usize> = (0..RANDOM_SIZES).map(|_| random.between(0, LIMIT)).collect();
     for size in sizes.chain(chosen) {
         plan.add(Command::checksum(channel.number(), &random.bytes(size)), Expected::Accepted);
@@ -61,7 +58,7 @@ fn add_sizes(plan: &mut Plan, random: &mut Random, channel: Channel) {
 
 /// Header and payload of a good frame give its trailer; the whole frame leaves nothing over.
 fn add_trailers(plan: &mut Plan, random: &mut Random, channel: Channel) {
-    for words in [0, 1, 2, 16, 127] {
+    for words in [0, 1, 2, 16, MOST_WORDS] {
         let frame = Draft::fair(random, channel, words).bytes();
         let (body, trailer) = frame.split_at(frame.len() - TRAILER_BYTES);
         let value = trailer.iter().fold(0, |value, byte| value * 256 + u32::from(*byte));

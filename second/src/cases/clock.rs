@@ -19,9 +19,8 @@ mod unlooked;
 use crate::plan::Plan;
 use crate::random::Random;
 
-pub use listed::NUMBERS;
-pub use listed_terms::TERMS;
-pub use measuring::UNSOUND_STATUSES;
+pub use listed::{CORRECTIONS, DAMPED_OF_01, MIDPOINTS, TIMES_OF_01};
+pub use listed_terms::CLUSTER_LIMITS;
 pub use unlooked::COUNTS;
 
 pub fn add(plan: &mut Plan, random: &mut Random) {

@@ -3,11 +3,13 @@
 use crate::bits;
 use crate::channel::Channel;
 use crate::draft::Draft;
-use crate::plan::{Expected, Note, Plan};
+use crate::frame::TRAILER_BYTES;
+use crate::plan::{Expected, Plan};
 use crate::random::Random;
 use crate::script::Command;
 
-const LONGEST_BURST: usize = 24;
+/// As many bits as the frame checksum has.
+const LONGEST_BURST: usize = 8 * TRAILER_BYTES;
 
 pub fn add(plan: &mut Plan, random: &mut Random) {
     for (channel, words) in [(Channel::A, 1), (Channel::B, 2)] {
@@ -19,24 +21,24 @@ pub fn add(plan: &mut Plan, random: &mut Random) {
     }
 }
 
-fn add_damaged(plan: &mut Plan, channel: Channel, frame: &[u8], places: &[usize], note: Note) {
+fn add_damaged(plan: &mut Plan, channel: Channel, frame: &[u8], places: &[usize]) {
     let mut bytes = frame.to_vec();
     for place in places {
         bits::flip(&mut bytes, *place);
     }
-    plan.add_noted(Command::read(channel.number(), &bytes), Expected::SomeRefusal, note);
+    plan.add(Command::read(channel.number(), &bytes), Expected::Damaged(frame.to_vec()));
 }
 
 fn add_singles(plan: &mut Plan, channel: Channel, frame: &[u8]) {
     for place in 0..8 * frame.len() {
-        add_damaged(plan, channel, frame, &[place], Note::SingleDamage);
+        add_damaged(plan, channel, frame, &[place]);
     }
 }
 
 fn add_pairs(plan: &mut Plan, channel: Channel, frame: &[u8]) {
     for second in 0..8 * frame.len() {
         for first in 0..second {
-            add_damaged(plan, channel, frame, &[first, second], Note::DoubleDamage);
+            add_damaged(plan, channel, frame, &[first, second]);
         }
     }
 }
@@ -46,9 +48,8 @@ fn add_bursts(plan: &mut Plan, random: &mut Random, channel: Channel, frame: &[u
     for length in 2..=LONGEST_BURST {
         for start in 0..=8 * frame.len() - length {
             let whole: Vec<usize> = (start..start + length).collect();
-            add_damaged(plan, channel, frame, &whole, Note::BurstDamage(length));
-            let holed = with_holes(random, &whole);
-            add_damaged(plan, channel, frame, &holed, Note::BurstDamage(length));
+            add_damaged(plan, channel, frame, &whole);
+            add_damaged(plan, channel, frame, &with_holes(random, &whole));
         }
     }
 }

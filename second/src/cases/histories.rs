@@ -2,12 +2,11 @@
 
 use crate::channel::Channel;
 use crate::faults::selections;
-use crate::history::{play_opened, play_refused, show, Happening};
+use crate::history::{play_opened, play_refused, show, Happening, Sort};
 use crate::plan::Plan;
 use crate::random::Random;
 use crate::refusal::READ_ORDER;
 use crate::scene::{Kind, Scene};
-use crate::slot_note::{SlotNote, Sort};
 use crate::status_numbers::StatusNumbers;
 
 /// One of each that leaves a mark of its own; "conflict" is the sixth mark and follows from the others.
@@ -37,7 +36,7 @@ fn add_never_opened(plan: &mut Plan, random: &mut Random) {
     let zeros = StatusNumbers::default();
     let frame = Scene::any(random).good(random).bytes();
     show(plan, &zeros);
-    play_refused(plan, &zeros, frame, SlotNote::NeverOpened);
+    play_refused(plan, &zeros, frame);
 }
 
 fn play_sorts(plan: &mut Plan, random: &mut Random, scene: &Scene, sorts: &[Sort]) {
@@ -73,12 +72,10 @@ fn add_unreadable(plan: &mut Plan, random: &mut Random, channel: Channel, kind: 
         let scene = Scene::fair(random, channel, kind);
         let bytes = scene.refused(random, *refusal);
         play_opened(plan, &scene, &[Happening::Refused(bytes)]);
-        plan.note_last(SlotNote::Arrival(channel, *refusal));
     }
     let scene = Scene::fair(random, channel, kind);
     let strange = scene.strange(random);
     play_opened(plan, &scene, &[Happening::Refused(strange)]);
-    plan.note_last(SlotNote::StrangeFrame(channel));
 }
 
 fn add_long(plan: &mut Plan, random: &mut Random) {

@@ -3,7 +3,8 @@
 use crate::channel::Channel;
 use crate::draft::Draft;
 use crate::frame::{LARGEST_FRAME, MOST_WORDS};
-use crate::plan::{Expected, Note, Plan};
+use crate::listed_frames::{ListedFrame, SHORT};
+use crate::plan::{Expected, Plan};
 use crate::random::Random;
 use crate::refusal::Refusal;
 use crate::script::{Command, Write};
@@ -16,32 +17,32 @@ pub fn add(plan: &mut Plan, random: &mut Random) {
     }
 }
 
+/// The published check values on A and B.
+pub const CHECK_VALUES: [u32; 2] = [0x7979BD, 0x1F23B8];
+
 fn add_check_values(plan: &mut Plan) {
-    for (channel, value) in [(0, 0x7979BD), (1, 0x1F23B8)] {
-        let line = Expected::Line(format!("checksum 0 {value}"));
-        plan.add_noted(Command::checksum(channel, b"123456789"), line, Note::CheckValue);
+    for (channel, value) in (0..).zip(CHECK_VALUES) {
+        plan.add(Command::checksum(channel, b"123456789"), Expected::Line(format!("checksum 0 {value}")));
     }
 }
 
 fn add_header(plan: &mut Plan) {
-    const ON_A: [u8; 8] = [0x20, 0x01, 0x01, 0xA7, 0xC0, 0xD0, 0x5E, 0xEA];
-    const ON_B: [u8; 8] = [0x20, 0x01, 0x01, 0xA7, 0xC0, 0x3B, 0xD0, 0x8F];
-    for (channel, own, foreign) in [(0, ON_A, ON_B), (1, ON_B, ON_A)] {
-        let line = Expected::Line("read 0 0 0 1 0 0 1 0 1695 0 -".to_string());
-        plan.add_noted(Command::read(channel, &own), line, Note::HeaderOf01);
-        plan.add_noted(Command::read(channel, &foreign), Expected::Refused(Refusal::FrameChecksum), Note::HeaderOf01);
+    for channel in Channel::BOTH {
+        let (number, own) = (channel.number(), SHORT.bytes(channel));
+        plan.add(Command::read(number, &own), Expected::line("read 0 0 0 1 0 0 1 0 1695 0 -"));
+        plan.add(Command::read(number, &SHORT.bytes(channel.other())), Expected::Refused(Refusal::FrameChecksum));
         for spare in [0, 1, 5] {
-            add_written_header(plan, channel, &own, spare);
+            add_written_header(plan, number, &own, spare);
         }
     }
 }
 
 /// The bytes after the frame stay as they were lent.
 fn add_written_header(plan: &mut Plan, channel: u8, frame: &[u8], spare: usize) {
-    let write = Write { channel, flags: 0b00100, id: 1, cycle: 0, payload: vec![], room: 8 + spare };
+    let ListedFrame { flags, id, cycle, .. } = SHORT;
+    let write = Write { channel, flags, id, cycle, payload: vec![], room: frame.len() + spare };
     let written: String = frame.iter().map(|byte| format!("{byte:02x}")).collect();
-    let line = Expected::Line(format!("write 0 8 {written}{}", "a5".repeat(spare)));
-    plan.add_noted(Command::Write(write), line, Note::HeaderOf01);
+    plan.add(Command::Write(write), Expected::Line(format!("write 0 8 {written}{}", "a5".repeat(spare))));
 }
 
 fn add_sizes(plan: &mut Plan, random: &mut Random, channel: Channel) {
@@ -82,5 +83,5 @@ fn add_longer(plan: &mut Plan, random: &mut Random, draft: &Draft, size: usize) 
 }
 
 fn add_size(plan: &mut Plan, channel: Channel, bytes: &[u8], expected: Expected) {
-    plan.add_noted(Command::read(channel.number(), bytes), expected, Note::SizeOf01(bytes.len()));
+    plan.add(Command::read(channel.number(), bytes), expected);
 }

@@ -5,19 +5,9 @@ use crate::channel::Channel;
 use crate::checksum::{self, FRAME_FACTORS, HEADER_FACTORS};
 use crate::draft::Draft;
 use crate::listed_frames::{self, ListedFrame};
-use crate::plan::{Expected, Note, Plan};
+use crate::plan::{Expected, Plan};
 use crate::random::Random;
 use crate::script::{Command, Write};
-
-/// What the notes say of them.
-pub const NUMBERS: [&str; 6] = [
-    "whole frames",
-    "header checksums",
-    "72 payload bytes are 36 words",
-    "header polynomial",
-    "frame polynomial",
-    "up to five wrong bits",
-];
 
 const NULL_FRAME_BIT: u8 = 0b00100;
 
@@ -34,8 +24,8 @@ pub fn add(plan: &mut Plan, random: &mut Random) {
     }
 }
 
-fn add_number(plan: &mut Plan, command: Command, line: String, number: &'static str) {
-    plan.add_noted(command, Expected::Line(line), Note::Number(number));
+fn add_number(plan: &mut Plan, command: Command, line: String) {
+    plan.add(command, Expected::Line(line));
 }
 
 /// Written apart from that of the answers, which is checked by it.
@@ -50,20 +40,20 @@ fn hex(bytes: &[u8]) -> String {
 fn add_whole_frame(plan: &mut Plan, channel: Channel, frame: &ListedFrame) {
     let bytes = frame.bytes(channel);
     let read = format!("read 0 {} {}", frame.fields, hex(frame.payload));
-    add_number(plan, Command::read(channel.number(), &bytes), read, NUMBERS[0]);
-    add_number(plan, Command::read(channel.other().number(), &bytes), "read 8 -".to_string(), NUMBERS[0]);
+    add_number(plan, Command::read(channel.number(), &bytes), read);
+    add_number(plan, Command::read(channel.other().number(), &bytes), "read 8 -".to_string());
     let ListedFrame { flags, id, cycle, .. } = *frame;
     let payload = frame.payload.to_vec();
     let write = Write { channel: channel.number(), flags, id, cycle, payload, room: bytes.len() };
-    add_number(plan, Command::Write(write), format!("write 0 {} {}", bytes.len(), hex(&bytes)), NUMBERS[0]);
+    add_number(plan, Command::Write(write), format!("write 0 {} {}", bytes.len(), hex(&bytes)));
     let [high, middle, low] = frame.trailer(channel);
     let checksum = u32::from_be_bytes([0, high, middle, low]);
     let covered = &bytes[..bytes.len() - 3];
-    add_number(plan, Command::checksum(channel.number(), covered), format!("checksum 0 {checksum}"), NUMBERS[0]);
+    add_number(plan, Command::checksum(channel.number(), covered), format!("checksum 0 {checksum}"));
 }
 
 /// Sync and startup, ID and words with the header checksum that belongs to them.
-const HEADER_CHECKSUMS: [(u8, u8, u16, u8, u16); 6] = [
+pub const HEADER_CHECKSUMS: [(u8, u8, u16, u8, u16); 6] = [
     (0, 0, 1, 0, 0x69F),
     (1, 1, 1, 8, 0x11B),
     (1, 0, 2047, 127, 0x4F7),
@@ -78,19 +68,19 @@ fn line_of(sync: u8, startup: u8, id: u16, words: u8, checksum: u16) -> String {
     format!("read 0 0 0 1 {sync} {startup} {id} {words} {checksum} 9 {payload}")
 }
 
-fn add_header(plan: &mut Plan, draft: &Draft, line: String, number: &'static str) {
+fn add_header(plan: &mut Plan, draft: &Draft, line: String) {
     let channel = draft.channel.number();
-    add_number(plan, Command::read(channel, &draft.bytes()), line, number);
+    add_number(plan, Command::read(channel, &draft.bytes()), line);
     // Any other checksum is refused.
     let wrong = Draft { header_checksum_change: 1, ..draft.clone() };
-    add_number(plan, Command::read(channel, &wrong.bytes()), "read 4 -".to_string(), number);
+    add_number(plan, Command::read(channel, &wrong.bytes()), "read 4 -".to_string());
 }
 
 fn add_header_checksums(plan: &mut Plan, channel: Channel) {
     for (sync, startup, id, words, checksum) in HEADER_CHECKSUMS {
         let flags = NULL_FRAME_BIT | sync << 3 | startup << 4;
         let draft = Draft::plain(channel, flags, id, words, 9);
-        add_header(plan, &draft, line_of(sync, startup, id, words, checksum), NUMBERS[1]);
+        add_header(plan, &draft, line_of(sync, startup, id, words, checksum));
     }
 }
 
@@ -99,7 +89,7 @@ fn add_36_words(plan: &mut Plan, random: &mut Random, channel: Channel) {
     let plain = Draft::plain(channel, NULL_FRAME_BIT, 19, 36, 7);
     let bytes = Draft { payload: random.bytes(72), ..plain }.bytes();
     let line = "accepted 19 7 36".to_string();
-    add_number(plan, Command::bench(channel.number(), &bytes), line, NUMBERS[2]);
+    add_number(plan, Command::bench(channel.number(), &bytes), line);
 }
 
 /// Bits that are covered by the header checksum: sync and startup 0, ID and words as the lowest 18 bits say. The start
@@ -109,25 +99,26 @@ fn header_dividing(channel: Channel, number: u32) -> Draft {
     Draft::plain(channel, NULL_FRAME_BIT, (covered >> 7) as u16, (covered & 0x7F) as u8, 9)
 }
 
-/// What is left of 1 is the polynomial without its highest term, and of the product of its factors nothing.
+/// The same where the bits covered stand for 0, for 1 and for the product of the factors: what is left of 1 is the
+/// polynomial without its highest term, and of the product nothing.
+pub const HEADER_REMAINDERS: [(u8, u8, u16, u8, u16); 3] =
+    [(0, 0, 104, 0, 0), (0, 0, 104, 1, 0x385), (0, 0, 127, 5, 0)];
+
 fn add_header_polynomial(plan: &mut Plan, channel: Channel) {
-    let product = checksum::product(&HEADER_FACTORS);
-    let cases = [(0, 104, 0, 0), (1, 104, 1, 0x385), (product, 127, 5, 0)];
-    for (number, id, words, checksum) in cases {
-        add_header(plan, &header_dividing(channel, number), line_of(0, 0, id, words, checksum), NUMBERS[3]);
+    let numbers = [0, 1, checksum::product(&HEADER_FACTORS)];
+    for (number, (sync, startup, id, words, checksum)) in numbers.into_iter().zip(HEADER_REMAINDERS) {
+        add_header(plan, &header_dividing(channel, number), line_of(sync, startup, id, words, checksum));
     }
 }
 
-/// The same for four bytes and the frame checksum.
+/// The polynomial of the frame checksum without its highest term, which is left of four bytes that stand for 1.
+pub const REMAINDER: u32 = 0x5D6DCB;
+
 fn add_frame_polynomial(plan: &mut Plan, channel: Channel) {
-    let start: u32 = match channel {
-        Channel::A => 0xFEDCBA,
-        Channel::B => 0xABCDEF,
-    };
     let product = checksum::product(&FRAME_FACTORS);
-    for (number, checksum) in [(0, 0), (1, 0x5D6DCB), (product, 0), (product ^ 1, 0x5D6DCB)] {
-        let bytes = (number ^ start << 8).to_be_bytes();
-        add_number(plan, Command::checksum(channel.number(), &bytes), format!("checksum 0 {checksum}"), NUMBERS[4]);
+    for (number, checksum) in [(0, 0), (1, REMAINDER), (product, 0), (product ^ 1, REMAINDER)] {
+        let bytes = (number ^ channel.start_value() << 8).to_be_bytes();
+        add_number(plan, Command::checksum(channel.number(), &bytes), format!("checksum 0 {checksum}"));
     }
 }
 
@@ -138,13 +129,8 @@ fn add_wrong_bits(plan: &mut Plan, random: &mut Random, channel: Channel) {
         for count in 1..=5 {
             for _ in 0..rounds {
                 let bytes = with_wrong_bits(random, &frame, count);
-                let command = Command::read(channel.number(), &bytes);
-                plan.add_noted(command, Expected::SomeRefusal, Note::Number(NUMBERS[5]));
-                plan.add_noted(
-                    Command::bench(channel.number(), &bytes),
-                    Expected::SomeRefusal,
-                    Note::Number(NUMBERS[5]),
-                );
+                plan.add(Command::read(channel.number(), &bytes), Expected::Damaged(frame.clone()));
+                plan.add(Command::bench(channel.number(), &bytes), Expected::Damaged(frame.clone()));
             }
         }
     }

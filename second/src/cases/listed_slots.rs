@@ -2,12 +2,9 @@
 
 use crate::channel::Channel;
 use crate::listed_frames::{SHORT, STARTUP};
-use crate::plan::{Expected, Note, Plan};
+use crate::plan::{Expected, Plan};
 use crate::script::{Command, Opening};
 use crate::settings::Settings;
-
-/// What the notes say of them.
-pub const NUMBERS: [&str; 2] = ["sixteen ways of a slot", "bad frames before a good one"];
 
 /// Slot 1 is static, its frames have no words: the shortest listed frame is good in it, in cycle 0.
 const SETTINGS: Settings = Settings { fields: [1, 2, 3, 4, 5, 6, 7, 8, 9, 0, 11], sends_sync: false };
@@ -55,21 +52,21 @@ pub fn add(plan: &mut Plan) {
         for (letters, shown) in WAYS {
             let backwards: String = letters.chars().rev().collect();
             for letters in [letters, &backwards] {
-                add_way(plan, channel, letters, shown, NUMBERS[0]);
+                add_way(plan, channel, letters, shown);
             }
         }
         for (letters, shown) in BEFORE_A_GOOD_ONE {
-            add_way(plan, channel, letters, shown, NUMBERS[1]);
+            add_way(plan, channel, letters, shown);
         }
     }
 }
 
-fn add_way(plan: &mut Plan, channel: Channel, letters: &str, shown: &str, number: &'static str) {
+fn add_way(plan: &mut Plan, channel: Channel, letters: &str, shown: &str) {
     let opening = Opening { settings: SETTINGS, channel: channel.number(), slot: 1, cycle: 0 };
     plan.add(Command::OpenSlot(opening), Expected::line("slot 0 0"));
     for letter in letters.chars() {
         plan.add(happening(letter, channel), Expected::line("event 0"));
     }
     let line = format!("{CLOCK}\nstatus 1 2 3 4 5 6 7 8 9 0 11 0 {} 1 0 {shown}", channel.number());
-    plan.add_noted(Command::Show, Expected::Line(line), Note::Number(number));
+    plan.add(Command::Show, Expected::Line(line));
 }

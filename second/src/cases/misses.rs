@@ -3,15 +3,14 @@
 use crate::channel::Channel;
 use crate::draft::Draft;
 use crate::faults::selections;
-use crate::frame::Indicators;
-use crate::history::{play_opened, play_put, Happening};
+use crate::frame::{Indicators, CYCLE_BITS, ID_BITS};
+use crate::history::{play_opened, play_put, Happening, Sort};
 use crate::marks::Mark;
 use crate::plan::Plan;
 use crate::random::Random;
 use crate::reason::Reason;
 use crate::scene::{Kind, Scene};
 use crate::settings::STATIC_SLOTS;
-use crate::slot_note::{Difference, SlotNote, Sort};
 use crate::status_numbers::StatusNumbers;
 
 pub fn add(plan: &mut Plan, random: &mut Random) {
@@ -74,27 +73,22 @@ fn add_misses_together(plan: &mut Plan, random: &mut Random, channel: Channel, k
     for missed in selections(kind.tests()).into_iter().skip(1) {
         let scene = Scene::fair(random, channel, kind);
         play_opened(plan, &scene, &[Happening::missing(random, &scene, &missed)]);
-        for later in &missed[1..] {
-            plan.note_last(SlotNote::MissedTogether(missed[0], *later));
-        }
     }
 }
 
 /// IDs and cycles that differ in one bit.
 fn add_single_bits(plan: &mut Plan, random: &mut Random, channel: Channel, kind: Kind) {
-    for bit in 0..11 {
+    for bit in 0..ID_BITS {
         let scene = slot_of_many_bits(random, channel, kind);
         let good = scene.good(random);
         let wrong = Draft { id: good.id ^ 1 << bit, ..good };
         play_opened(plan, &scene, &[Happening::Missing(Reason::Id, wrong)]);
-        plan.note_last(SlotNote::IdBit(kind, bit));
     }
-    for bit in 0..6 {
+    for bit in 0..CYCLE_BITS {
         let scene = slot_of_many_bits(random, channel, kind);
         let good = scene.good(random);
         let wrong = Draft { cycle: good.cycle ^ 1 << bit, ..good };
         play_opened(plan, &scene, &[Happening::Missing(Reason::Cycle, wrong)]);
-        plan.note_last(SlotNote::CycleBit(kind, bit));
     }
 }
 
@@ -107,6 +101,17 @@ fn slot_of_many_bits(random: &mut Random, channel: Channel, kind: Kind) -> Scene
         Kind::Dynamic => 0x555,
     };
     Scene { slot, settings: fair.settings.with_field(STATIC_SLOTS, 1000), ..fair }
+}
+
+/// What can differ between two good frames of a slot.
+#[derive(Clone, Copy)]
+enum Difference {
+    Reserved,
+    Preamble,
+    NullFrame,
+    Sync,
+    Startup,
+    Words,
 }
 
 /// Two good frames that differ in one thing: the first is kept. Three of the five bits differ in static slots only,
@@ -126,9 +131,7 @@ fn add_later_good(plan: &mut Plan, random: &mut Random, channel: Channel) {
         let scene = Scene::fair(random, channel, kind);
         let [one, other] = differing(random, &scene, difference).map(Happening::Good);
         play_opened(plan, &scene, &[one.clone(), other.clone()]);
-        plan.note_last(SlotNote::LaterGood(difference));
         play_opened(plan, &scene, &[other, one]);
-        plan.note_last(SlotNote::LaterGood(difference));
     }
 }
 

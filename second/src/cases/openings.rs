@@ -2,6 +2,7 @@
 
 use crate::channel::Channel;
 use crate::faults::{faulty_opening, selections, wrong_value};
+use crate::frame::{HIGHEST_CYCLE, HIGHEST_ID};
 use crate::history::{play, play_opened, play_refused, show, Happening};
 use crate::plan::{Expected, Plan};
 use crate::random::Random;
@@ -9,7 +10,6 @@ use crate::refusal::{Refusal, OPEN_SLOT_ORDER};
 use crate::scene::{Kind, Scene};
 use crate::script::{Command, Opening};
 use crate::settings::{self, FIELDS};
-use crate::slot_note::SlotNote;
 use crate::status_numbers::StatusNumbers;
 
 const ROUNDS_OF_SELECTIONS: usize = 2;
@@ -62,7 +62,6 @@ fn add_two_fields(plan: &mut Plan, random: &mut Random, first: usize, later: usi
     let with_later = fair.settings.with_field(later, wrong_value(random, later));
     let opening = Opening { settings: with_later.with_field(first, wrong_value(random, first)), ..fair };
     add_refused(plan, random, opening, Refusal::Setting, first);
-    plan.note_last(SlotNote::TwoFields(first, later));
 }
 
 fn add_channels(plan: &mut Plan, random: &mut Random) {
@@ -77,20 +76,20 @@ fn add_slots(plan: &mut Plan, random: &mut Random) {
         let fair = Scene::fair(random, channel, Kind::Static);
         add_taken(plan, random, &Scene { slot: 1, ..fair });
         let fair = Scene::fair(random, channel, Kind::Dynamic);
-        add_taken(plan, random, &Scene { slot: 2047, ..fair });
+        add_taken(plan, random, &Scene { slot: HIGHEST_ID, ..fair });
     }
-    for slot in [0, 2048, 2049, 4096, 32768, 65535] {
+    for slot in [0, HIGHEST_ID + 1, HIGHEST_ID + 2, 4096, 32768, u16::MAX] {
         let opening = Opening { slot, ..Scene::any(random).opening() };
         add_refused(plan, random, opening, Refusal::IdGiven, 0);
     }
 }
 
 fn add_cycles(plan: &mut Plan, random: &mut Random) {
-    for cycle in [0, 63] {
+    for cycle in [0, HIGHEST_CYCLE] {
         let scene = Scene { cycle, ..Scene::any(random) };
         add_taken(plan, random, &scene);
     }
-    for cycle in [64, 65, 127, 128, 255] {
+    for cycle in [HIGHEST_CYCLE + 1, HIGHEST_CYCLE + 2, 127, 128, u8::MAX] {
         let opening = Opening { cycle, ..Scene::any(random).opening() };
         add_refused(plan, random, opening, Refusal::Cycle, 0);
     }
@@ -101,8 +100,8 @@ fn add_selections(plan: &mut Plan, random: &mut Random) {
     for faults in selections(&OPEN_SLOT_ORDER) {
         let opening = faulty_opening(random, &faults);
         plan.add_faulty(Command::OpenSlot(opening), &faults);
-        if let Some(first) = faults.first() {
-            add_zeros(plan, random, *first);
+        if !faults.is_empty() {
+            add_zeros(plan, random);
         }
     }
 }
@@ -113,14 +112,13 @@ fn add_refused(plan: &mut Plan, random: &mut Random, opening: Opening, refusal: 
     play_opened(plan, &held, &[Happening::OwnSending, Happening::Good(held.good(random))]);
     let line = format!("slot {} {field}", refusal.number());
     plan.add(Command::OpenSlot(opening), Expected::Line(line));
-    add_zeros(plan, random, refusal);
+    add_zeros(plan, random);
 }
 
 /// The status is all zeros, and no event changes that.
-fn add_zeros(plan: &mut Plan, random: &mut Random, refusal: Refusal) {
+fn add_zeros(plan: &mut Plan, random: &mut Random) {
     let zeros = StatusNumbers::default();
     let frame = Scene::any(random).good(random).bytes();
     show(plan, &zeros);
-    plan.note_last(SlotNote::ZerosAfter(refusal));
-    play_refused(plan, &zeros, frame, |letter| SlotNote::EventAfter(refusal, letter));
+    play_refused(plan, &zeros, frame);
 }

@@ -1,9 +1,9 @@
 //! Reads: every value of every header field, every refusal and all their coincidences.
 
 use crate::channel::Channel;
-use crate::draft::Draft;
+use crate::draft::{Draft, FOREIGN_CHANNELS};
 use crate::faults::{faulty_read, selections};
-use crate::frame::{Indicators, HIGHEST_CYCLE, HIGHEST_ID, MOST_WORDS};
+use crate::frame::{Indicators, HIGHEST_CYCLE, HIGHEST_ID, LARGEST_FRAME, MOST_WORDS, SMALLEST_FRAME};
 use crate::plan::{Expected, Plan};
 use crate::random::Random;
 use crate::refusal::{Refusal, READ_ORDER};
@@ -35,8 +35,8 @@ fn add_channels(plan: &mut Plan, random: &mut Random) {
     for channel in 2..=255 {
         plan.add(Command::read(channel, &frame), Expected::Refused(Refusal::Channel));
     }
-    for channel in [2, 3, 128, 255] {
-        for size in [0, 7, 9, 263, 264] {
+    for channel in FOREIGN_CHANNELS {
+        for size in [0, SMALLEST_FRAME - 1, SMALLEST_FRAME + 1, LARGEST_FRAME + 1, LARGEST_FRAME + 2] {
             plan.add(Command::read(channel, &random.bytes(size)), Expected::Refused(Refusal::Channel));
         }
     }

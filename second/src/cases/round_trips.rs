@@ -4,11 +4,11 @@ use crate::answer::Answer;
 use crate::channel::Channel;
 use crate::draft::{fair_words, Draft};
 use crate::faults::fair_write;
-use crate::frame::{self, Fields, MOST_WORDS, SMALLEST_FRAME};
-use crate::plan::{Expected, Note, Plan};
+use crate::frame::{self, Fields, MOST_WORDS};
+use crate::plan::{Expected, Plan};
 use crate::random::Random;
 use crate::refusal::Refusal;
-use crate::script::{Command, Write};
+use crate::script::{Command, OnChannel, Write};
 
 const ROUNDS: usize = 150;
 
@@ -32,10 +32,8 @@ fn add_written_then_read(plan: &mut Plan, random: &mut Random, channel: Channel,
     frame::write(write.channel, &write.given(), &write.payload, &mut frame).expect("a fair write is taken");
     let read_back = Answer::Read(Ok(fields_of(&write)), write.payload.clone()).line();
     plan.add(Command::Write(write), Expected::Accepted);
-    let command = Command::read(channel.number(), &frame);
-    plan.add_noted(command, Expected::Line(read_back), Note::WrittenThenRead);
-    let command = Command::read(channel.other().number(), &frame);
-    plan.add_noted(command, Expected::Refused(Refusal::FrameChecksum), Note::WrittenThenReadOnOtherChannel);
+    plan.add(Command::read(channel.number(), &frame), Expected::Line(read_back));
+    plan.add(Command::read(channel.other().number(), &frame), Expected::Refused(Refusal::FrameChecksum));
 }
 
 /// The fields that reading back must give, from what the writer was given.
@@ -58,7 +56,7 @@ fn add_read_then_written(plan: &mut Plan, random: &mut Random, channel: Channel,
     let frame = draft.bytes();
     let again = Answer::Write(Ok(frame.len()), frame.clone()).line();
     plan.add(Command::read(channel.number(), &frame), Expected::Accepted);
-    plan.add_noted(rewrite(&draft), Expected::Line(again), Note::ReadThenWritten);
+    plan.add(rewrite(&draft), Expected::Line(again));
 }
 
 /// The one frame that is read but can't be written again.
@@ -67,23 +65,11 @@ fn add_rewritten_reserved(plan: &mut Plan, draft: &Draft) {
         return;
     }
     plan.add(Command::read(draft.channel.number(), &draft.bytes()), Expected::Accepted);
-    let refused = Expected::Refused(Refusal::ReservedToWrite);
-    plan.add_noted(rewrite(draft), refused, Note::ReadThenRefusedForReserved);
+    plan.add(rewrite(draft), Expected::Refused(Refusal::ReservedToWrite));
 }
 
-/// A write of what a read of the draft's bytes gives, its room just large enough.
+/// A write of what a read of the draft's bytes gives.
 fn rewrite(draft: &Draft) -> Command {
-    let channel = draft.channel.number();
-    let bytes = draft.bytes();
-    let answer = frame::read(channel, &bytes);
-    let payload = frame::payload(&answer, &bytes).to_vec();
-    let fields = answer.expect("a fair frame is accepted");
-    Command::Write(Write {
-        channel,
-        flags: fields.indicators.flags(),
-        id: fields.id,
-        cycle: fields.cycle,
-        room: SMALLEST_FRAME + payload.len(),
-        payload,
-    })
+    let read = OnChannel { channel: draft.channel.number(), bytes: draft.bytes() };
+    Command::Write(Write::again(&read).expect("a fair frame is accepted"))
 }

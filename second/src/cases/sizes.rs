@@ -2,11 +2,14 @@
 
 use crate::channel::Channel;
 use crate::draft::Draft;
-use crate::frame::{LARGEST_FRAME, MOST_WORDS, SMALLEST_FRAME};
+use crate::frame::{LARGEST_FRAME, LARGEST_PAYLOAD, MOST_WORDS, SMALLEST_FRAME};
 use crate::plan::{Expected, Plan};
 use crate::random::Random;
 use crate::refusal::Refusal;
 use crate::script::{Command, LIMIT};
+
+/// The longest payload of which a script holds the whole frame.
+const LONGEST: usize = LIMIT - SMALLEST_FRAME;
 
 pub fn add(plan: &mut Plan, random: &mut Random) {
     for size in 0..=LIMIT {
@@ -17,7 +20,7 @@ pub fn add(plan: &mut Plan, random: &mut Random) {
             add_true_frame(plan, random, channel, words);
         }
     }
-    for size in [256, 257, 258, 300, 511, 512, 591, 592] {
+    for size in [LARGEST_PAYLOAD + 2, LARGEST_PAYLOAD + 3, 258, 300, 511, 512, LONGEST - 1, LONGEST] {
         add_overlong_frame(plan, random, size);
     }
 }
@@ -47,7 +50,7 @@ fn add_true_frame(plan: &mut Plan, random: &mut Random, channel: Channel, words:
 /// Header and trailer are right, only the payload is more than a frame can hold.
 fn add_overlong_frame(plan: &mut Plan, random: &mut Random, payload: usize) {
     for channel in Channel::BOTH {
-        let words = (payload / 2 % 128) as u8;
+        let words = (payload / 2 % (usize::from(MOST_WORDS) + 1)) as u8;
         let fair = Draft::fair(random, channel, words);
         let draft = Draft { payload: random.bytes(payload), ..fair };
         plan.add(Command::read(channel.number(), &draft.bytes()), Expected::Refused(Refusal::Size));

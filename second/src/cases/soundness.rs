@@ -1,6 +1,7 @@
 //! Statuses with one clause of 01's soundness broken, each beside a sound one that differs in that clause alone.
 
-use crate::frame::{Fields, Indicators};
+use crate::faults::{WRONG_CYCLES, WRONG_IDS};
+use crate::frame::{Fields, Indicators, HIGHEST_CYCLE, HIGHEST_ID, MOST_WORDS};
 use crate::history::{play_put, play_refused, put, show, with_conflict, Happening};
 use crate::marks::Mark;
 use crate::plan::Plan;
@@ -8,12 +9,10 @@ use crate::random::Random;
 use crate::reason::Reason;
 use crate::scene::{Kind, Scene};
 use crate::settings::{self, FIELDS, STATIC_SLOTS, STATIC_WORDS};
-use crate::slot_note::{Clause, SlotNote};
 use crate::status_numbers::{HeaderNumbers, StatusNumbers};
 
 /// The slot is that of the sound status.
 struct Pair {
-    clause: Clause,
     slot: Scene,
     sound: StatusNumbers,
     unsound: StatusNumbers,
@@ -49,14 +48,12 @@ fn add_unsound(plan: &mut Plan, random: &mut Random, pair: &Pair) {
     let frame = pair.slot.good(random).bytes();
     put(plan, &pair.unsound);
     show(plan, &pair.unsound);
-    play_refused(plan, &pair.unsound, frame, |letter| SlotNote::Unsound(pair.clause, letter));
+    play_refused(plan, &pair.unsound, frame);
 }
 
 fn add_repaired(plan: &mut Plan, random: &mut Random, pair: &Pair) {
     for event in [Happening::Good(pair.slot.good(random)), Happening::Boundary, Happening::OwnSending] {
-        let letter = event.command().letter();
         play_put(plan, &pair.sound, &[event]);
-        plan.note_last(SlotNote::Repaired(pair.clause, letter));
     }
 }
 
@@ -68,23 +65,31 @@ fn settings(random: &mut Random, field: usize) -> Vec<Pair> {
         let slot = Scene { settings: fair.settings.with_field(field, right), ..fair };
         let sound = slot.fresh();
         let unsound = StatusNumbers { settings: sound.settings.with_field(field, wrong), ..sound };
-        pairs.push(Pair { clause: Clause::Setting(field, wrong), slot, sound, unsound });
+        pairs.push(Pair { slot, sound, unsound });
     }
     pairs
 }
 
+/// The end of the range of slots that is nearest, and its kind.
+fn nearest(wrong: u16) -> (u16, Kind) {
+    if wrong == 0 {
+        return (1, Kind::Static);
+    }
+    (HIGHEST_ID, Kind::Dynamic)
+}
+
 fn slots_and_cycles(random: &mut Random) -> Vec<Pair> {
-    let slots = [(0, 1, Kind::Static), (2048, 2047, Kind::Dynamic), (65535, 2047, Kind::Dynamic)];
     let mut pairs = Vec::new();
-    for (wrong, right, kind) in slots {
+    for wrong in WRONG_IDS {
+        let (right, kind) = nearest(wrong);
         let slot = Scene { slot: right, ..Scene::any_of(random, kind) };
         let unsound = StatusNumbers { slot: wrong, ..slot.fresh() };
-        pairs.push(Pair { clause: Clause::Slot(wrong), slot, sound: slot.fresh(), unsound });
+        pairs.push(Pair { slot, sound: slot.fresh(), unsound });
     }
-    for wrong in [64, 255] {
-        let slot = Scene { cycle: 63, ..Scene::any(random) };
+    for wrong in WRONG_CYCLES {
+        let slot = Scene { cycle: HIGHEST_CYCLE, ..Scene::any(random) };
         let unsound = StatusNumbers { cycle: wrong, ..slot.fresh() };
-        pairs.push(Pair { clause: Clause::Cycle(wrong), slot, sound: slot.fresh(), unsound });
+        pairs.push(Pair { slot, sound: slot.fresh(), unsound });
     }
     pairs
 }
@@ -96,12 +101,10 @@ fn reasons(random: &mut Random, kind: Kind) -> Vec<Pair> {
     let content_error = Mark::ContentError.bit();
     let mut pairs = Vec::new();
     for reason in Reason::IN_ORDER {
-        let clause = Clause::ReasonWithoutContentError(kind, reason);
         let (sound, unsound) = (with(content_error, reason.number()), with(0, reason.number()));
-        pairs.push(Pair { clause, slot, sound, unsound });
+        pairs.push(Pair { slot, sound, unsound });
     }
-    let clause = Clause::ContentErrorWithoutReason(kind);
-    pairs.push(Pair { clause, slot, sound: slot.fresh(), unsound: with(content_error, 0) });
+    pairs.push(Pair { slot, sound: slot.fresh(), unsound: with(content_error, 0) });
     pairs
 }
 
@@ -120,34 +123,22 @@ fn kept_or_not(random: &mut Random, kind: Kind) -> Vec<Pair> {
     let sound = holding(&slot, good_header(random, &slot));
     let without_valid = StatusNumbers { marks: 0, ..sound };
     let without_kept = StatusNumbers { kept: false, ..sound };
-    vec![
-        Pair { clause: Clause::KeptWithoutValid(kind), slot, sound, unsound: without_valid },
-        Pair { clause: Clause::ValidWithoutKept(kind), slot, sound, unsound: without_kept },
-    ]
+    vec![Pair { slot, sound, unsound: without_valid }, Pair { slot, sound, unsound: without_kept }]
 }
 
 /// Numbers that no read gives, their checksum right. Most have the right number in their lowest bits.
 fn kept_numbers(random: &mut Random, kind: Kind) -> Vec<Pair> {
     let slot = Scene::any_of(random, kind);
     let good = good_header(random, &slot);
-    let cases = [
-        (Clause::KeptId(0), HeaderNumbers { id: 0, ..good }),
-        (Clause::KeptId(2048), HeaderNumbers { id: 2048, ..good }),
-        (Clause::KeptId(65535), HeaderNumbers { id: 65535, ..good }),
-        (Clause::KeptId(2048), HeaderNumbers { id: good.id + 2048, ..good }),
-        (Clause::KeptWords(kind), HeaderNumbers { words: 128, ..good }),
-        (Clause::KeptWords(kind), HeaderNumbers { words: good.words + 128, ..good }),
-        (Clause::KeptWords(kind), HeaderNumbers { words: 255, ..good }),
-        (Clause::KeptCycle(64), HeaderNumbers { cycle: 64, ..good }),
-        (Clause::KeptCycle(64), HeaderNumbers { cycle: good.cycle + 64, ..good }),
-        (Clause::KeptCycle(255), HeaderNumbers { cycle: 255, ..good }),
-    ];
+    let [id_0, id, far_id] = WRONG_IDS.map(|id| HeaderNumbers { id, ..good });
+    let [cycle, far_cycle] = WRONG_CYCLES.map(|cycle| HeaderNumbers { cycle, ..good });
+    let same_id = HeaderNumbers { id: good.id + HIGHEST_ID + 1, ..good };
+    let same_cycle = HeaderNumbers { cycle: good.cycle + HIGHEST_CYCLE + 1, ..good };
+    let [words, same_words, far_words] =
+        [MOST_WORDS + 1, good.words + MOST_WORDS + 1, u8::MAX].map(|words| HeaderNumbers { words, ..good });
+    let wrong = [id_0, id, far_id, same_id, words, same_words, far_words, cycle, same_cycle, far_cycle];
     let sound = holding(&slot, good);
-    let pair = |(clause, wrong): (Clause, HeaderNumbers)| {
-        let unsound = holding(&slot, wrong.with_right_checksum());
-        Pair { clause, slot, sound, unsound }
-    };
-    cases.map(pair).into()
+    wrong.map(|wrong| Pair { slot, sound, unsound: holding(&slot, wrong.with_right_checksum()) }).into()
 }
 
 /// Frames that can be read but miss a test of the slot.
@@ -163,9 +154,8 @@ fn kept_misses(random: &mut Random, kind: Kind) -> Vec<Pair> {
             let indicators = Indicators { startup: !wrong.indicators.startup, ..wrong.indicators };
             headers.push(Fields { indicators, ..wrong }.with_right_checksum());
         }
-        let clause = Clause::KeptMisses(kind, *test);
         let unsound = headers.iter().map(|fields| holding(&slot, HeaderNumbers::of(fields)));
-        pairs.extend(unsound.map(|unsound| Pair { clause, slot, sound, unsound }));
+        pairs.extend(unsound.map(|unsound| Pair { slot, sound, unsound }));
     }
     pairs
 }
@@ -179,10 +169,7 @@ fn kept_across_the_border(random: &mut Random) -> Vec<Pair> {
     ];
     let mut pairs = Vec::new();
     for (kind, missed, look) in cases {
-        let (last_static, moved, other) = match kind {
-            Kind::Static => (500, 499, Kind::Dynamic),
-            Kind::Dynamic => (499, 500, Kind::Static),
-        };
+        let (last_static, moved) = if kind == Kind::Static { (500, 499) } else { (499, 500) };
         let fair = Scene::any_of(random, kind);
         let settings = fair.settings.with_field(STATIC_WORDS, 2).with_field(STATIC_SLOTS, last_static);
         let slot = Scene { slot: 500, settings, ..fair };
@@ -190,7 +177,7 @@ fn kept_across_the_border(random: &mut Random) -> Vec<Pair> {
         let good = HeaderNumbers { flags: look, words, ..good_header(random, &slot) }.with_right_checksum();
         let sound = holding(&slot, good);
         let unsound = StatusNumbers { settings: settings.with_field(STATIC_SLOTS, moved), ..sound };
-        pairs.push(Pair { clause: Clause::KeptMisses(other, missed), slot, sound, unsound });
+        pairs.push(Pair { slot, sound, unsound });
     }
     pairs
 }
@@ -198,17 +185,19 @@ fn kept_across_the_border(random: &mut Random) -> Vec<Pair> {
 /// Slot or cycle out of range together with the kept frame's, so that no test is missed.
 fn kept_like_the_slot(random: &mut Random) -> Vec<Pair> {
     let mut pairs = Vec::new();
-    for (wrong, right, kind) in [(0, 1, Kind::Static), (2048, 2047, Kind::Dynamic)] {
+    for wrong in [0, HIGHEST_ID + 1] {
+        let (right, kind) = nearest(wrong);
         let slot = Scene { slot: right, ..Scene::any_of(random, kind) };
         let good = good_header(random, &slot);
         let kept = HeaderNumbers { id: wrong, ..good }.with_right_checksum();
         let unsound = StatusNumbers { slot: wrong, ..holding(&slot, kept) };
-        pairs.push(Pair { clause: Clause::SlotAndKeptId(wrong), slot, sound: holding(&slot, good), unsound });
+        pairs.push(Pair { slot, sound: holding(&slot, good), unsound });
     }
-    let slot = Scene { cycle: 63, ..Scene::any(random) };
+    let slot = Scene { cycle: HIGHEST_CYCLE, ..Scene::any(random) };
     let good = good_header(random, &slot);
-    let unsound = StatusNumbers { cycle: 64, ..holding(&slot, HeaderNumbers { cycle: 64, ..good }) };
-    pairs.push(Pair { clause: Clause::CycleAndKeptCycle(64), slot, sound: holding(&slot, good), unsound });
+    let cycle = HIGHEST_CYCLE + 1;
+    let unsound = StatusNumbers { cycle, ..holding(&slot, HeaderNumbers { cycle, ..good }) };
+    pairs.push(Pair { slot, sound: holding(&slot, good), unsound });
     pairs
 }
 
@@ -219,7 +208,7 @@ fn kept_checksums(random: &mut Random) -> Vec<Pair> {
         let good = good_header(random, &slot);
         let wrong = HeaderNumbers { checksum: good.checksum ^ 1 << bit, ..good };
         let (sound, unsound) = (holding(&slot, good), holding(&slot, wrong));
-        Pair { clause: Clause::KeptChecksum(bit), slot, sound, unsound }
+        Pair { slot, sound, unsound }
     };
     (0..16).map(wrong_in).collect()
 }
@@ -233,7 +222,7 @@ fn kept_startup(random: &mut Random) -> Pair {
         let header = HeaderNumbers { flags: indicators.flags(), ..HeaderNumbers::of(&good) };
         holding(&slot, header.with_right_checksum())
     };
-    Pair { clause: Clause::KeptStartupWithoutSync, slot, sound: with(true), unsound: with(false) }
+    Pair { slot, sound: with(true), unsound: with(false) }
 }
 
 /// Marks with "conflict" against the others, reason and frame beside them as they ask for.
@@ -244,5 +233,5 @@ fn conflicts(random: &mut Random, marks: u8) -> Option<Pair> {
     }
     let slot = Scene::any(random);
     let sound = slot.marked(random, right);
-    Some(Pair { clause: Clause::Conflict(marks), slot, sound, unsound: StatusNumbers { marks, ..sound } })
+    Some(Pair { slot, sound, unsound: StatusNumbers { marks, ..sound } })
 }

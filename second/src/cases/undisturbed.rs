@@ -2,12 +2,11 @@
 
 use crate::channel::Channel;
 use crate::faults::{faulty_bench, faulty_checksum, faulty_read, faulty_write};
-use crate::history::{demanded, play_opened, show, Happening};
+use crate::history::{demanded, play_opened, show, Happening, Sort};
 use crate::plan::Plan;
 use crate::random::Random;
 use crate::refusal::{Refusal, READ_ORDER};
 use crate::scene::{Kind, Scene};
-use crate::slot_note::{SlotNote, Sort};
 
 pub fn add(plan: &mut Plan, random: &mut Random) {
     for channel in Channel::BOTH {
@@ -30,7 +29,6 @@ fn add_undisturbed(plan: &mut Plan, random: &mut Random, scene: &Scene, arrival:
     for faults in [&[][..], &[Refusal::Channel]] {
         add_frame_commands(plan, random, faults);
         show(plan, &held);
-        plan.note_last(SlotNote::FramesBetween(arrival, faults.is_empty()));
     }
 }
 

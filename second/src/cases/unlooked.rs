@@ -1,13 +1,12 @@
 //! What a script says of a status but nobody looks at: unnamed bits, and a header behind a kept switch of 0.
 
-use crate::history::{play, put, show, with_conflict, Happening};
+use crate::history::{play, put, show, with_conflict, Happening, Sort};
 use crate::marks::{Mark, NAMED_MARKS};
 use crate::plan::{Expected, Plan};
 use crate::random::Random;
 use crate::refusal::Refusal;
 use crate::scene::Scene;
 use crate::script::Command;
-use crate::slot_note::{SlotNote, Sort};
 use crate::status_numbers::{HeaderNumbers, StatusNumbers};
 
 pub fn add(plan: &mut Plan, random: &mut Random) {
@@ -23,12 +22,11 @@ pub fn add(plan: &mut Plan, random: &mut Random) {
 }
 
 /// Shown without what isn't looked at, and judged without it: a sound status takes an event of every sort.
-fn add_sound(plan: &mut Plan, random: &mut Random, slot: &Scene, numbers: &StatusNumbers, note: SlotNote) {
+fn add_sound(plan: &mut Plan, random: &mut Random, slot: &Scene, numbers: &StatusNumbers) {
     for sort in Sort::ALL {
         put(plan, numbers);
         show(plan, numbers);
         play(plan, numbers, &[Happening::any(random, slot, sort)]);
-        plan.note_last(note);
     }
 }
 
@@ -43,7 +41,7 @@ fn add_marks(plan: &mut Plan, random: &mut Random, bit: u8) {
         let slot = Scene::any(random);
         let sound = slot.marked(random, with_conflict(named));
         let numbers = StatusNumbers { marks: sound.marks | 1 << bit, ..sound };
-        add_sound(plan, random, &slot, &numbers, SlotNote::UnnamedMark(bit));
+        add_sound(plan, random, &slot, &numbers);
         // "Conflict" alone is never sound.
         add_unsound(plan, &StatusNumbers { marks: Mark::Conflict.bit() | 1 << bit, ..slot.fresh() });
     }
@@ -53,7 +51,7 @@ fn add_flags(plan: &mut Plan, random: &mut Random, bit: u8) {
     let slot = Scene::any(random);
     let sound = slot.marked(random, NAMED_MARKS);
     let header = HeaderNumbers { flags: sound.header.flags | 1 << bit, ..sound.header };
-    add_sound(plan, random, &slot, &StatusNumbers { header, ..sound }, SlotNote::UnnamedFlag(bit));
+    add_sound(plan, random, &slot, &StatusNumbers { header, ..sound });
     add_unsound(plan, &StatusNumbers { header, marks: 0, ..sound });
 }
 
@@ -71,6 +69,6 @@ fn add_behind(plan: &mut Plan, random: &mut Random, place: usize) {
     let slot = Scene::any(random);
     for header in [one[place], EVERY] {
         let numbers = StatusNumbers { header, ..slot.fresh() };
-        add_sound(plan, random, &slot, &numbers, SlotNote::BehindKept(place));
+        add_sound(plan, random, &slot, &numbers);
     }
 }

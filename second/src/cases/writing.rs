@@ -2,7 +2,7 @@
 
 use crate::channel::Channel;
 use crate::faults::{fair_write, faulty_write, selections};
-use crate::frame::{HIGHEST_CYCLE, HIGHEST_ID, LARGEST_PAYLOAD, SMALLEST_FRAME};
+use crate::frame::{HIGHEST_CYCLE, HIGHEST_ID, LARGEST_FRAME, LARGEST_PAYLOAD, SMALLEST_FRAME};
 use crate::plan::{Expected, Plan};
 use crate::random::Random;
 use crate::refusal::{Refusal, WRITE_ORDER};
@@ -57,7 +57,8 @@ fn add_payload_sizes(plan: &mut Plan, random: &mut Random, channel: Channel) {
 
 fn add_wrong_payload_sizes(plan: &mut Plan, random: &mut Random, channel: Channel) {
     let odd = (1..LARGEST_PAYLOAD).step_by(2);
-    for size in odd.chain([255, 256, 257, 258, 510, 511, 512, 598, 599, LIMIT]) {
+    let too_many = (LARGEST_PAYLOAD + 1..=LARGEST_PAYLOAD + 4).chain([510, 511, 512, LIMIT - 2, LIMIT - 1, LIMIT]);
+    for size in odd.chain(too_many) {
         // A room of any size leaves refusal 10 the first.
         let room = random.pick(&[0, 8, 30]);
         let write = Write { room, ..sized_write(random, channel, size) };
@@ -69,7 +70,7 @@ fn add_wrong_payload_sizes(plan: &mut Plan, random: &mut Random, channel: Channe
 
 fn add_ids(plan: &mut Plan, random: &mut Random, channel: Channel) {
     let powers = (0..16).map(|place| 1 << place);
-    let ends = [0, 3, 2046, 2047, 2049, 4095, 4097, 32767, 65534, 65535];
+    let ends = [0, 3, HIGHEST_ID - 1, HIGHEST_ID, HIGHEST_ID + 2, 4095, 4097, 32767, u16::MAX - 1, u16::MAX];
     for id in powers.chain(ends) {
         let write = Write { id, ..sized_write(random, channel, 4) };
         let right = (1..=HIGHEST_ID).contains(&id);
@@ -105,7 +106,9 @@ fn by_flags(flags: u8) -> Expected {
 fn add_rooms(plan: &mut Plan, random: &mut Random, channel: Channel) {
     add_rooms_for(plan, random, channel, 0, &(0..=20).collect::<Vec<usize>>());
     add_rooms_for(plan, random, channel, 4, &(0..=40).collect::<Vec<usize>>());
-    add_rooms_for(plan, random, channel, LARGEST_PAYLOAD, &[0, 1, 8, 254, 260, 261, 262, 263, 264, 599, LIMIT]);
+    let around = LARGEST_FRAME - 2..=LARGEST_FRAME + 2;
+    let rooms: Vec<usize> = [0, 1, 8, LARGEST_PAYLOAD].into_iter().chain(around).chain([LIMIT - 1, LIMIT]).collect();
+    add_rooms_for(plan, random, channel, LARGEST_PAYLOAD, &rooms);
 }
 
 fn add_rooms_for(plan: &mut Plan, random: &mut Random, channel: Channel, size: usize, rooms: &[usize]) {

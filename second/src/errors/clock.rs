@@ -6,16 +6,21 @@ use crate::clock_numbers::{ClockNumbers, ListNumbers};
 use crate::clock_scene::{list, row};
 use crate::closing::Controls;
 use crate::script::{Cause, Command};
+use crate::settings::SYNC_ID_LIMIT;
+use crate::sync_list::PLACES;
 
 /// Where a byte stands in `K`, the letter at place 0.
-pub const OPEN: usize = 46;
-const CYCLE: usize = 47;
-pub const CLOSED: usize = 48;
-const LAST: usize = 49;
-const EVEN_COUNT: usize = 54;
-const FIRST_SEEN: usize = 57;
-const ODD_COUNT: usize = 220;
-const SIZE: usize = 386;
+pub const OPEN: usize = SENDS_SYNC + 1;
+const CYCLE: usize = OPEN + 1;
+pub const CLOSED: usize = CYCLE + 1;
+const LAST: usize = CLOSED + 1;
+const EVEN_COUNT: usize = LAST + 5;
+const FIRST_SEEN: usize = EVEN_COUNT + 3;
+const ODD_COUNT: usize = EVEN_COUNT + 1 + PLACES * ROW;
+const SIZE: usize = ODD_COUNT + 1 + PLACES * ROW;
+
+/// The bytes of a row.
+const ROW: usize = 11;
 
 const CLOCK_LINE: &str = "clock 1 2 3 4 5 6 7 8 9 0 11 1 1 4 1 3 -6 EVEN 1 7 3 -8 9 ODD 0\n";
 
@@ -38,7 +43,7 @@ pub(super) fn good_ones() -> Vec<(Command, String)> {
         (Command::CloseCycle(Controls { offset: -128, rate: 127 }), "close 21 0 0 0 0 0 0 0\n"),
         (Command::put_clock(&clock()), "clock put\n"),
         (Command::CloseCycle(Controls { offset: 1, rate: -1 }), "close 0 4 -15 0 0 0 0 1\n"),
-        (Command::Load(SETTINGS.with_field(4, 0)), "load 17 4\n"),
+        (Command::Load(SETTINGS.with_field(SYNC_ID_LIMIT, 0)), "load 17 4\n"),
         (Command::CloseCycle(Controls::NONE), "close 23 0 0 0 0 0 0 0\n"),
     ];
     commands.map(|(command, line)| (command, line.to_string())).into()
@@ -55,7 +60,7 @@ pub(super) fn ends_inside() -> Vec<Small> {
     }
     // Rows that are not listed must be there as well.
     let put = bytes_of(&Command::put_clock(&clock()));
-    let in_rows = (EVEN_COUNT + 1..SIZE).filter(|size| size % 11 < 2).chain([ODD_COUNT, ODD_COUNT + 1, SIZE - 1]);
+    let in_rows = (EVEN_COUNT + 1..SIZE).filter(|size| size % ROW < 2).chain([ODD_COUNT, ODD_COUNT + 1, SIZE - 1]);
     all.extend((1..=EVEN_COUNT).chain(in_rows).map(|size| broken(Cause::EndInside, &put[..size])));
     all
 }
@@ -78,7 +83,7 @@ pub(super) fn no_errors() -> Vec<Small> {
     let put = Command::put_clock(&clock());
     let off = Command::put_clock(&ClockNumbers { open: false, closed: false, ..clock() });
     let off_line = CLOCK_LINE.replace("1 4 1 3 -6", "0 0 0 0 -6");
-    let counted = format!("ODD 255{}", " 0 0 0 0".repeat(15));
+    let counted = format!("ODD 255{}", " 0 0 0 0".repeat(PLACES));
     let cases = [
         (&put, CYCLE, 255, CLOCK_LINE.replace("1 4 1 3", "1 255 1 3")),
         (&put, LAST, 64, CLOCK_LINE.replace("1 4 1 3", "1 4 1 64")),

@@ -1,15 +1,15 @@
 //! One script for each kind of script error, played beside the listed cases: good commands, the error, a good command.
 
-use super::{bytes_of, changed, Small, FRAME, OPENING, REASON, SENDS_SYNC, SETTINGS, STATUS};
+use super::{bytes_of, changed, frame, Small, OPENING, REASON, SENDS_SYNC, SETTINGS, STATUS};
 use crate::script::{Cause, Command, Write, LIMIT};
 
 /// Played before the error.
 fn before() -> Vec<u8> {
     let commands = [
         Command::checksum(0, b"123456789"),
-        Command::bench(0, &FRAME),
+        Command::bench(0, &frame()),
         Command::OpenSlot(OPENING),
-        Command::Arrived(FRAME.to_vec()),
+        Command::Arrived(frame()),
         Command::Load(SETTINGS),
         Command::OpenCycle(4),
         Command::Show,
@@ -32,17 +32,17 @@ script error at 7
 const BEHIND: Command = Command::Show;
 
 /// With a name for each. But for its fault each command would be good, and the one behind it is.
-pub fn one_of_each() -> [(&'static str, Small); 6] {
+pub fn one_of_each() -> [(String, Small); 6] {
     let room_above = Write { channel: 0, flags: 0b00100, id: 1, cycle: 0, payload: vec![1, 2], room: LIMIT + 1 };
     let cases = [
         ("unknown_letter", Cause::UnknownLetter, b"Z".to_vec()),
-        ("size_above_600", Cause::SizeAbove, bytes_of(&Command::read(0, &[0; LIMIT + 1]))),
-        ("room_above_600", Cause::RoomAbove, bytes_of(&Command::Write(room_above))),
+        (&format!("size_above_{LIMIT}")[..], Cause::SizeAbove, bytes_of(&Command::read(0, &[0; LIMIT + 1]))),
+        (&format!("room_above_{LIMIT}"), Cause::RoomAbove, bytes_of(&Command::Write(room_above))),
         ("wrong_switch", Cause::WrongSwitch, changed(&Command::Load(SETTINGS), SENDS_SYNC, 2)),
         ("reason_above_5", Cause::ReasonAbove, changed(&Command::PutStatus(STATUS), REASON, 6)),
-        ("end_inside", Cause::EndInside, bytes_of(&Command::read(0, &FRAME))),
+        ("end_inside", Cause::EndInside, bytes_of(&Command::read(0, &frame()))),
     ];
-    cases.map(|(name, cause, error)| (name, around(cause, &error)))
+    cases.map(|(name, cause, error)| (name.to_string(), around(cause, &error)))
 }
 
 /// Behind an end there is nothing: that command lacks its last byte.

@@ -3,7 +3,7 @@
 use super::{broken, bytes_of, good_ones, whole, Small};
 use crate::script::{Cause, Command, Write, LIMIT};
 
-const TOO_LARGE: [u16; 3] = [601, 1024, 65535];
+const TOO_LARGE: [u16; 3] = [LIMIT as u16 + 1, 1024, u16::MAX];
 
 /// Sizes and rooms above the limit, with and without bytes behind them.
 pub(super) fn too_large() -> Vec<Small> {
@@ -17,10 +17,10 @@ pub(super) fn too_large() -> Vec<Small> {
         all.push(broken(Cause::RoomAbove, &[BEFORE_ROOM, &number.to_le_bytes()].concat()));
     }
     for before in BEFORE_SIZE {
-        all.push(broken(Cause::SizeAbove, &[before, &601u16.to_le_bytes(), &[0; 603]].concat()));
+        all.push(broken(Cause::SizeAbove, &[before, &TOO_LARGE[0].to_le_bytes(), &[0; LIMIT + 3]].concat()));
     }
     // The bytes behind a room that is too large would be a good command.
-    all.push(broken(Cause::RoomAbove, &[BEFORE_ROOM, &601u16.to_le_bytes(), &good_ones()[0].0].concat()));
+    all.push(broken(Cause::RoomAbove, &[BEFORE_ROOM, &TOO_LARGE[0].to_le_bytes(), &good_ones()[0].0].concat()));
     all
 }
 

@@ -1,149 +1,70 @@
-//! What a script must reach of reading and writing frames.
+//! Frames that are written and read back, and frames and checksums that are known.
 
-use super::{coincidences, Reach, Reached};
+use super::choices::any;
+use super::Reached;
 use crate::answer::Answer;
-use crate::cases::FRAME_NUMBERS;
+use crate::cases::{CHECK_VALUES, HEADER_CHECKSUMS, HEADER_REMAINDERS, REMAINDER};
 use crate::channel::Channel;
-use crate::frame::{Fields, Indicators, HIGHEST_CYCLE, HIGHEST_ID, LARGEST_FRAME, SMALLEST_FRAME};
-use crate::plan::Note;
-use crate::refusal::{Refusal, READ_ORDER, WRITE_ORDER};
-use crate::script::{OnChannel, Write, LIMIT};
+use crate::draft::FOREIGN_CHANNELS;
+use crate::frame::{Fields, TRAILER_BYTES};
+use crate::listed_frames;
+use crate::script::{OnChannel, Write};
 
 impl Reached {
-    pub(super) fn add_channel(&mut self, letter: char, channel: u8) {
-        if channel > 1 {
-            self.add(Reach::ForeignChannel(letter, channel));
+    pub(super) fn add_checksum(&mut self, given: &OnChannel, answer: &Answer) {
+        if let Answer::Checksum(Ok(checksum)) = answer {
+            self.add(format!("frame checksum {checksum:#x} on {}", given.channel));
+            let trailer = &checksum.to_be_bytes()[4 - TRAILER_BYTES..];
+            self.add_listed('F', given.channel, &[&given.bytes, trailer].concat(), 0);
         }
     }
 
     pub(super) fn add_read(&mut self, given: &OnChannel, answer: &Answer) {
-        self.add_channel('R', given.channel);
-        self.add(Reach::SizeRead(given.bytes.len()));
+        self.add_listed('R', given.channel, &given.bytes, answer.number());
+        if self.written.as_ref() == Some(&given.bytes) {
+            self.add(format!("written, then read: {}", answer.number()));
+        }
         if let Answer::Read(Ok(fields), _) = answer {
-            self.add_accepted(given, fields);
-        }
-        if answer.refusal() == Some(Refusal::StartupWithoutSync) {
-            self.add(Reach::AllIndicatorsRefused(leading_flags(given)));
-        }
-    }
-
-    fn add_accepted(&mut self, given: &OnChannel, fields: &Fields) {
-        self.add(Reach::SizeAccepted(given.channel, given.bytes.len()));
-        for (place, bit) in fields.indicators.sent().into_iter().enumerate() {
-            self.add(Reach::IndicatorRead(place, bit));
-        }
-        self.add(Reach::AllIndicatorsRead(fields.indicators.flags()));
-        self.add(Reach::IdRead(fields.id));
-        self.add(Reach::CycleRead(fields.cycle));
-    }
-
-    pub(super) fn add_write(&mut self, write: &Write, refusal: Option<Refusal>) {
-        self.add_channel('W', write.channel);
-        match refusal {
-            None => self.add_written(write),
-            Some(Refusal::IdGiven) => self.add(Reach::IdNotWritten(write.id)),
-            Some(Refusal::PayloadToWrite) => self.add(Reach::PayloadNotWritten(write.payload.len())),
-            Some(Refusal::Cycle) => self.add(Reach::CycleNotWritten(write.cycle)),
-            Some(Refusal::Output) => self.add_short_room(write),
-            Some(_) => (),
+            let Fields { indicators, id, words, header_checksum, .. } = *fields;
+            let [sync, startup] = [indicators.sync, indicators.startup].map(u8::from);
+            self.add(format!("header checksum {header_checksum:#x} of {sync} {startup} {id} {words}"));
+            self.read = Some(given.clone());
         }
     }
 
-    fn add_written(&mut self, write: &Write) {
-        let size = SMALLEST_FRAME + write.payload.len();
-        self.add(Reach::SizeWritten(write.channel, size));
-        self.add(Reach::AllIndicatorsWritten(write.flags & 0b11111));
-        self.add(Reach::UnnamedFlagsWritten(write.flags >> 5));
-        self.add(Reach::IdWritten(write.id));
-        self.add(Reach::CycleWritten(write.cycle));
-        self.add(if write.room == size { Reach::RoomExact } else { Reach::RoomLarger });
+    pub(super) fn add_write(&mut self, write: &Write, answer: &Answer) {
+        if self.read.as_ref().is_some_and(|read| Write::again(read).as_ref() == Some(write)) {
+            self.add(format!("read, then written: {}", answer.number()));
+        }
+        if let Answer::Write(Ok(size), output) = answer {
+            self.add_listed('W', write.channel, &output[..*size], 0);
+            self.written = Some(output[..*size].to_vec());
+        }
     }
 
-    fn add_short_room(&mut self, write: &Write) {
-        if write.room == 0 {
-            self.add(Reach::RoomZero);
-        }
-        if write.room + 1 == SMALLEST_FRAME + write.payload.len() {
-            self.add(Reach::RoomOneShort);
+    pub(super) fn add_listed(&mut self, letter: char, given: u8, bytes: &[u8], number: u8) {
+        for (place, frame) in listed_frames::ALL.iter().enumerate() {
+            for channel in Channel::BOTH.into_iter().filter(|channel| frame.bytes(*channel) == bytes) {
+                self.add(format!("{letter} of listed frame {place} for {channel:?} on {given}: {number}"));
+            }
         }
     }
 }
 
-/// The first five bits of a frame, as flags: sending order from the lowest bit up.
-fn leading_flags(given: &OnChannel) -> u8 {
-    given.bytes[0].reverse_bits() & 0b11111
-}
-
-pub(super) fn required() -> Vec<Reach> {
-    let mut all = required_answers();
-    all.extend(required_reads());
-    all.extend(required_writes());
-    all.extend(required_notes().into_iter().map(Reach::Noted));
-    all
-}
-
-pub(super) fn required_answers() -> Vec<Reach> {
-    let mut all: Vec<Reach> = ['F', 'R', 'W', 'P'].map(|letter| Reach::Answer(letter, 0)).into();
-    all.push(Reach::Answer('F', Refusal::Channel.number()));
-    for letter in ['R', 'P'] {
-        all.extend(READ_ORDER.map(|refusal| Reach::Answer(letter, refusal.number())));
+pub(super) fn required() -> Vec<String> {
+    let foreign = any(FOREIGN_CHANNELS);
+    let mut all: Vec<String> = ["written, then read: <0|8>", "read, then written: <0|12>"].map(str::to_string).into();
+    for channel in Channel::BOTH {
+        let (own, other) = (channel.number(), channel.other().number());
+        let listed = format!("of listed frame <0..2> for {channel:?}");
+        all.push(format!("<F|R|W|P> {listed} on {own}: 0"));
+        all.push(format!("<R|P> {listed} on {other}: 8"));
+        all.push(format!("P {listed} on <{foreign}>: 1"));
+        let known = [0, REMAINDER, channel.start_value(), CHECK_VALUES[usize::from(own)]];
+        all.extend(known.map(|checksum| format!("frame checksum {checksum:#x} on {own}")));
     }
-    all.extend(WRITE_ORDER.map(|refusal| Reach::Answer('W', refusal.number())));
-    for letter in ['F', 'R', 'W', 'P'] {
-        all.extend([2, 3, 128, 255].map(|channel| Reach::ForeignChannel(letter, channel)));
+    for (sync, startup, id, words, checksum) in HEADER_CHECKSUMS.into_iter().chain(HEADER_REMAINDERS) {
+        all.push(format!("header checksum {checksum:#x} of {sync} {startup} {id} {words}"));
     }
-    all
-}
-
-fn required_reads() -> Vec<Reach> {
-    let mut all: Vec<Reach> = (0..=LIMIT).map(Reach::SizeRead).collect();
-    all.extend(every_frame_size().map(|(channel, size)| Reach::SizeAccepted(channel, size)));
-    for place in 0..5 {
-        all.extend([false, true].map(|bit| Reach::IndicatorRead(place, bit)));
-    }
-    all.extend((0..32).map(|flags| match Indicators::from_flags(flags).startup_without_sync() {
-        true => Reach::AllIndicatorsRefused(flags),
-        false => Reach::AllIndicatorsRead(flags),
-    }));
-    all.extend((1..=HIGHEST_ID).map(Reach::IdRead));
-    all.extend((0..=HIGHEST_CYCLE).map(Reach::CycleRead));
-    all
-}
-
-fn required_writes() -> Vec<Reach> {
-    let mut all = vec![Reach::RoomExact, Reach::RoomLarger, Reach::RoomOneShort, Reach::RoomZero];
-    all.extend(every_frame_size().map(|(channel, size)| Reach::SizeWritten(channel, size)));
-    let taken = (0..32).map(Indicators::from_flags).filter(|bits| !bits.reserved && !bits.startup_without_sync());
-    all.extend(taken.map(|indicators| Reach::AllIndicatorsWritten(indicators.flags())));
-    all.extend((0..8).map(Reach::UnnamedFlagsWritten));
-    all.extend([1, HIGHEST_ID].map(Reach::IdWritten));
-    all.extend((0..=HIGHEST_CYCLE).map(Reach::CycleWritten));
-    all.extend([0, 2048, 65535].map(Reach::IdNotWritten));
-    all.extend([1, 253, 255, 256, 600].map(Reach::PayloadNotWritten));
-    all.extend([64, 255].map(Reach::CycleNotWritten));
-    all
-}
-
-fn every_frame_size() -> impl Iterator<Item = (u8, usize)> {
-    let sizes = (SMALLEST_FRAME..=LARGEST_FRAME).step_by(2);
-    sizes.flat_map(|size| Channel::BOTH.map(|channel| (channel.number(), size)))
-}
-
-fn required_notes() -> Vec<Note> {
-    let mut all = vec![
-        Note::SingleDamage,
-        Note::DoubleDamage,
-        Note::WrittenThenRead,
-        Note::WrittenThenReadOnOtherChannel,
-        Note::ReadThenWritten,
-        Note::ReadThenRefusedForReserved,
-        Note::CheckValue,
-        Note::HeaderOf01,
-    ];
-    all.extend((2..=24).map(Note::BurstDamage));
-    all.extend(FRAME_NUMBERS.map(Note::Number));
-    all.extend([0, 7, 8, 9, 262, 263, 264].map(Note::SizeOf01));
-    all.extend(coincidences('R', &READ_ORDER));
-    all.extend(coincidences('W', &WRITE_ORDER));
     all
 }

@@ -1,284 +1,160 @@
-//! What a script must reach of the judgement of slots.
+//! What happens in slots, and what arrives in them.
 
-use std::mem;
-
-use super::frames::required_answers;
-use super::{coincidences, Reach, Reached};
+use super::choices::any;
+use super::stays::Origin;
+use super::Reached;
 use crate::answer::Answer;
-use crate::cases::SLOT_NUMBERS;
-use crate::channel::Channel;
-use crate::history::with_conflict;
-use crate::plan::Note;
+use crate::cases::{BORDERS, LOOKS};
+use crate::faults::selections;
+use crate::frame::{self, Fields, CYCLE_BITS, HIGHEST_ID, ID_BITS, MOST_WORDS};
+use crate::history::{with_conflict, Sort};
 use crate::reason::Reason;
-use crate::refusal::{Refusal, OPEN_SLOT_ORDER, READ_ORDER};
 use crate::scene::Kind;
-use crate::script::{Command, Opening};
-use crate::settings::{self, FIELDS, RANGES};
-use crate::slot_note::{Clause, Difference, First, SlotNote, Sort, BORDERS, LOOKS};
+use crate::script::Command;
+use crate::settings::{self, STATIC_SLOTS, STATIC_WORDS};
+use crate::slot::SlotStatus;
 use crate::status_numbers::StatusNumbers;
 
-const EVENTS: [char; 3] = ['A', 'B', 'X'];
+/// Null frame, sync and startup bit among the flags.
+const LOOK_BITS: u8 = 0b11100;
+
+/// Longer histories are not told apart.
+const LONGEST_HISTORY: usize = 3;
 
 impl Reached {
-    pub(super) fn add_opening(&mut self, opening: &Opening, answer: &Answer) {
-        self.from_opening = answer.refusal().is_none();
-        self.add_channel('S', opening.channel);
-        match (answer.refusal(), answer) {
-            (None, _) => self.add_opened(opening),
-            (Some(Refusal::Setting), Answer::Opened(_, field)) => {
-                self.add(Reach::FieldNotOpened(*field, opening.settings.field(*field)));
-            }
-            (Some(Refusal::IdGiven), _) => self.add(Reach::SlotNotOpened(opening.slot)),
-            (Some(Refusal::Cycle), _) => self.add(Reach::CycleNotOpened(opening.cycle)),
+    pub(super) fn add_opening(&mut self, answer: &Answer) {
+        self.status_from = answer.refusal().map_or(Origin::Opened, Origin::Refused);
+        self.put_status = None;
+        self.history.clear();
+    }
+
+    pub(super) fn add_put_status(&mut self, numbers: &StatusNumbers) {
+        self.status_from = Origin::Put;
+        self.put_status = Some(*numbers);
+    }
+
+    pub(super) fn add_event(&mut self, command: &Command, answer: &Answer) {
+        if answer.refusal().is_some() {
+            return;
+        }
+        self.add_unlooked_of_status();
+        let sort = match command {
+            Command::Arrived(bytes) => self.add_arrival(bytes),
+            Command::Boundary => Sort::Boundary,
+            _ => Sort::OwnSending,
+        };
+        self.history.push(sort);
+    }
+
+    fn add_arrival(&mut self, bytes: &[u8]) -> Sort {
+        let status = self.held.status.clone();
+        let channel = status.channel;
+        if let Ok(fields) = frame::read(channel.number(), bytes) {
+            return self.add_readable(&status, &fields);
+        }
+        let causes = frame::read_causes(channel.number(), bytes);
+        self.add_of('A', format!("arrival on {channel:?} with causes for {causes:?}"));
+        let elsewhere = frame::read(channel.other().number(), bytes);
+        if elsewhere.is_ok_and(|fields| status.misses(&fields).is_empty()) {
+            self.add_of('A', format!("arrival on {channel:?} of a frame that is good on the other channel"));
+        }
+        if bytes.is_empty() {
+            return Sort::NoBytes;
+        }
+        Sort::Refused
+    }
+
+    fn add_readable(&mut self, status: &SlotStatus, fields: &Fields) -> Sort {
+        let (channel, kind, missed) = (status.channel, Kind::of(status), status.misses(fields));
+        let first = missed.first().copied();
+        match status.reason {
+            Some(reason) => self.add_of('A', format!("behind reason {reason:?}: {first:?}")),
+            None => self.add_of('A', format!("{kind:?} on {channel:?} misses {missed:?}")),
+        }
+        if let Some(kept) = &status.kept {
+            let [later, before] = [fields, kept].map(|fields| fields.indicators.flags());
+            let (words, differing) = (fields.words.cmp(&kept.words), later ^ before);
+            let flags = format!("flags {} for {}", later & differing, before & differing);
+            let good = format!("{kind:?} behind good: {flags}, words {words:?}");
+            self.add_of('A', first.map_or(good, |reason| format!("behind good: {reason:?}")));
+        }
+        match missed[..] {
+            [Reason::Id] => self.add_of('A', format!("{kind:?} ID wrong in {}", fields.id ^ status.slot)),
+            [Reason::Cycle] => self.add_of('A', format!("{kind:?} cycle wrong in {}", fields.cycle ^ status.cycle)),
             _ => (),
         }
-    }
-
-    fn add_opened(&mut self, opening: &Opening) {
-        for field in 1..=FIELDS {
-            self.add(Reach::FieldOpened(field, opening.settings.field(field)));
+        if fields.id == status.slot && fields.cycle == status.cycle {
+            self.add_look(status, fields);
         }
-        self.add(Reach::SyncSenderOpened(opening.settings.sends_sync));
-        self.add(Reach::SlotOpened(opening.channel, opening.slot));
-        self.add(Reach::CycleOpened(opening.cycle));
+        first.map_or(Sort::Good, |_| Sort::Missing)
     }
 
-    /// A status that was put doesn't show what events can lead to.
-    pub(super) fn add_put(&mut self) {
-        self.from_opening = false;
+    /// A frame that only words and leading bits can make wrong.
+    fn add_look(&mut self, status: &SlotStatus, Fields { indicators, words, .. }: &Fields) {
+        let [field_10, last] = [STATIC_WORDS, STATIC_SLOTS].map(|field| status.settings.field(field));
+        let (slot, look, equal) = (status.slot, indicators.flags() & LOOK_BITS, u32::from(*words) == field_10);
+        self.add_of('A', format!("look {look} in slot {slot} of {last}, words equal: {equal}"));
+        self.add_of('A', format!("{:?} {words} words against {field_10}", Kind::of(status)));
     }
 
-    /// What was answered beside the slot counts until a command that can change the status: what is shown behind that one
-    /// is another status.
-    pub(super) fn follow_status(&mut self, command: &Command, answer: &Answer) {
-        match command.letter() {
-            'S' | 'A' | 'B' | 'X' | 'T' => self.beside_status.clear(),
-            'D' => (),
-            letter => {
-                self.beside_status.insert((letter, answer.number()));
-            }
+    /// What an opening and nothing but events led to.
+    pub(super) fn add_shown_status(&mut self) {
+        if self.status_from != Origin::Opened {
+            return;
         }
-    }
-
-    pub(super) fn add_shown(&mut self, numbers: &StatusNumbers) {
-        if self.from_opening {
-            self.add_from_opening(numbers);
+        let shown = StatusNumbers::of(&self.held.status);
+        let marks = format!("marks {} on {:?}", shown.marks, shown.channel);
+        if with_conflict(shown.marks) != shown.marks {
+            self.impossible.push(marks.clone());
         }
-        // A status that was lost would have no marks, so that without marks the showing proves nothing.
-        let answers = mem::take(&mut self.beside_status).into_iter().filter(|_| numbers.marks != 0);
-        answers.for_each(|(letter, number)| self.add(Reach::StatusStayed(letter, number)));
-    }
-
-    fn add_from_opening(&mut self, numbers: &StatusNumbers) {
-        self.add(Reach::MarksFromOpening(numbers.channel, numbers.marks));
-        self.add(Reach::ReasonFromOpening(numbers.channel, numbers.reason));
-        if numbers.kept {
-            (0..5).for_each(|place| self.add(Reach::IndicatorKept(place, numbers.header.flags >> place & 1 == 1)));
+        self.add(marks);
+        if self.history.len() <= LONGEST_HISTORY {
+            self.add(format!("history {:?}", self.history));
+        }
+        if shown.kept {
+            (0..5).for_each(|place| self.add(format!("kept bit {place}: {}", shown.header.flags >> place & 1)));
         }
     }
-
-    /// Marks that an opening and events led to, though 01 leaves no way to them.
-    pub fn impossible(&self) -> Vec<Reach> {
-        let reachable: Vec<Reach> = marks_from_opening().collect();
-        let marks = self.counts.keys().filter(|reach| matches!(reach, Reach::MarksFromOpening(..)));
-        marks.filter(|reach| !reachable.contains(reach)).copied().collect()
-    }
 }
 
-/// 32 of the 64 sets of marks: five marks are free of each other, and "conflict" follows from the others, so that the
-/// sets in which it stands against them don't arise.
-fn marks_from_opening() -> impl Iterator<Item = Reach> {
-    let sets = (0..64).filter(|marks| with_conflict(*marks) == *marks);
-    sets.flat_map(|marks| Channel::BOTH.map(|channel| Reach::MarksFromOpening(channel, marks)))
-}
-
-pub(super) fn required() -> Vec<Reach> {
-    let mut all: Vec<Reach> = marks_from_opening().collect();
-    all.extend(from_opening());
-    all.extend(answers());
-    all.extend(openings());
-    all.extend(stayed());
-    let notes = [histories(), misses(), borders(), refused_openings(), clauses(), unlooked(), frames_between()];
-    all.extend(notes.concat().into_iter().map(|note| Reach::Noted(Note::Slot(note))));
-    all.extend(coincidences('S', &OPEN_SLOT_ORDER).into_iter().map(Reach::Noted));
-    all.extend(SLOT_NUMBERS.map(|number| Reach::Noted(Note::Number(number))));
-    all
-}
-
-/// No reason and each of (a) to (e), and kept frames with each bit set and clear.
-fn from_opening() -> Vec<Reach> {
-    let mut all = Vec::new();
-    for channel in Channel::BOTH {
-        all.extend((0..=5).map(|reason| Reach::ReasonFromOpening(channel, reason)));
-    }
-    for place in 0..5 {
-        all.extend([false, true].map(|bit| Reach::IndicatorKept(place, bit)));
-    }
-    all
-}
-
-pub(super) fn answers() -> Vec<Reach> {
-    let mut all = vec![Reach::Answer('S', 0), Reach::Answer('T', 0), Reach::Answer('D', 0)];
-    all.extend(OPEN_SLOT_ORDER.map(|refusal| Reach::Answer('S', refusal.number())));
-    for letter in EVENTS {
-        all.extend([0, Refusal::NotSound.number()].map(|number| Reach::Answer(letter, number)));
-    }
-    all
-}
-
-fn openings() -> Vec<Reach> {
-    let mut all: Vec<Reach> = [false, true].map(Reach::SyncSenderOpened).into();
-    for (place, range) in RANGES.into_iter().enumerate() {
-        let ends = [*range.start(), *range.end()];
-        all.extend(ends.map(|value| Reach::FieldOpened(place + 1, value)));
-    }
-    all.extend(wrong_fields().into_iter().map(|(field, value)| Reach::FieldNotOpened(field, value)));
-    all.extend([2, 255].map(|channel| Reach::ForeignChannel('S', channel)));
-    all.extend([0, 2048, 65535].map(Reach::SlotNotOpened));
-    all.extend([64, 255].map(Reach::CycleNotOpened));
-    for channel in Channel::BOTH {
-        all.extend([1, 2047].map(|slot| Reach::SlotOpened(channel.number(), slot)));
-    }
-    all.extend([0, 63].map(Reach::CycleOpened));
-    all
-}
-
-/// Fields with the values beside their range and with the highest of all.
-pub(super) fn wrong_fields() -> Vec<(usize, u32)> {
-    (1..=FIELDS).flat_map(|field| settings::beyond(field).into_iter().map(move |(wrong, _)| (field, wrong))).collect()
-}
-
-/// Every answer about a frame is given while a status is held.
-fn stayed() -> impl Iterator<Item = Reach> {
-    required_answers().into_iter().filter_map(|reach| match reach {
-        Reach::Answer(letter, number) => Some(Reach::StatusStayed(letter, number)),
-        _ => None,
-    })
-}
-
-fn histories() -> Vec<SlotNote> {
-    let mut all = vec![SlotNote::RefusedAfterGood];
-    all.extend(EVENTS.map(SlotNote::NeverOpened));
-    for channel in Channel::BOTH {
-        all.push(SlotNote::StrangeFrame(channel));
-        all.extend(READ_ORDER[1..].iter().map(|refusal| SlotNote::Arrival(channel, *refusal)));
-    }
-    for first in [First::Sending, First::Arriving] {
-        all.extend(Sort::ARRIVALS.map(|arrival| SlotNote::Conflict(first, arrival)));
-    }
-    all
-}
-
-fn misses() -> Vec<SlotNote> {
-    let mut all = Vec::new();
-    for reason in Reason::IN_ORDER {
-        all.extend(Channel::BOTH.map(|channel| SlotNote::FirstMiss(channel, reason)));
-        all.extend(Reason::IN_ORDER.map(|later| SlotNote::LaterMiss(reason, later)));
-        all.extend([SlotNote::GoodAfterMiss(reason), SlotNote::MissAfterGood(reason)]);
-        let later = Reason::IN_ORDER.into_iter().filter(|later| can_be_missed_together(reason, *later));
-        all.extend(later.map(|later| SlotNote::MissedTogether(reason, later)));
-    }
+/// 32 of the 64 sets of marks: five marks are free of each other, and "conflict" follows from the others. Every order of
+/// three events leads to one of them. A size that no frame has is never that of the words.
+pub(super) fn required() -> Vec<String> {
+    const SORTS: &str = "<NoBytes|Refused|Missing|Good|Boundary|OwnSending>";
+    const CAUSES: &str =
+        "TooFewBytes|Size, WordsAgainstSize|HeaderChecksum|WordsAgainstSize|IdRead|StartupWithoutSync|FrameChecksum";
+    let [of_id, of_cycle] = [ID_BITS, CYCLE_BITS].map(|bits| any((0..bits).map(|bit| 1 << bit)));
+    let reasons = "Id|Cycle|StaticWords|DynamicSync|DynamicNull";
+    let marks = any((0..64).filter(|marks| with_conflict(*marks) == *marks));
+    let mut all = vec![
+        format!("marks <{marks}> on <A|B>"),
+        format!("history [{SORTS}, {SORTS}, {SORTS}]"),
+        "kept bit <0..4>: <0|1>".to_string(),
+        "arrival on <A|B> of a frame that is good on the other channel".to_string(),
+        format!("arrival on <A|B> with causes for [<{CAUSES}>]"),
+        format!("<Static|Dynamic> ID wrong in <{of_id}>"),
+        format!("<Static|Dynamic> cycle wrong in <{of_cycle}>"),
+        "Static behind good: flags <1|2|4|8|16> for 0, words Equal".to_string(),
+        "Static behind good: flags 0 for <1|2|4|8|16>, words Equal".to_string(),
+        "Dynamic behind good: flags <1 for 0|2 for 0|0 for 1|0 for 2>, words Equal".to_string(),
+        "Dynamic behind good: flags 0 for 0, words <Less|Greater>".to_string(),
+        format!("behind good: <{reasons}>"),
+        format!("behind reason <{reasons}>: Some(<{reasons}>)"),
+        format!("behind reason <{reasons}>: None"),
+        format!("<Static|Dynamic> <0|1|64|{}|{MOST_WORDS}> words against <0|{MOST_WORDS}>", MOST_WORDS - 1),
+    ];
     for kind in Kind::BOTH {
-        all.extend((0..11).map(|bit| SlotNote::IdBit(kind, bit)));
-        all.extend((0..6).map(|bit| SlotNote::CycleBit(kind, bit)));
+        all.extend(selections(kind.tests()).iter().map(|missed| format!("{kind:?} on <A|B> misses {missed:?}")));
     }
-    let bits = [Difference::Reserved, Difference::Preamble, Difference::NullFrame, Difference::Sync];
-    all.extend(bits.into_iter().chain([Difference::Startup, Difference::Words]).map(SlotNote::LaterGood));
+    all.extend(borders());
     all
 }
 
-/// No slot is static and dynamic, so that (c) is never missed together with (d) or (e).
-fn can_be_missed_together(first: Reason, later: Reason) -> bool {
-    first < later && first != Reason::StaticWords
-}
-
-fn borders() -> Vec<SlotNote> {
-    let mut all = Vec::new();
-    let around = BORDERS.into_iter().flat_map(|last| [last - 1, last, last + 1].map(|slot| (last, slot)));
-    for (last, slot) in around.chain([(2, 2047), (1023, 1), (1023, 2047)]) {
-        for look in LOOKS {
-            all.extend([false, true].map(|equal| SlotNote::Look(last.into(), slot, look, equal)));
-        }
-    }
-    for kind in Kind::BOTH {
-        for field_10 in [0, 127] {
-            all.extend([0, 1, 64, 126, 127].map(|words| SlotNote::Words(kind, field_10, words)));
-        }
-    }
-    all
-}
-
-fn refused_openings() -> Vec<SlotNote> {
-    let mut all = Vec::new();
-    for refusal in OPEN_SLOT_ORDER {
-        all.push(SlotNote::ZerosAfter(refusal));
-        all.extend(EVENTS.map(|letter| SlotNote::EventAfter(refusal, letter)));
-    }
-    for first in 1..=FIELDS {
-        all.extend((first + 1..=FIELDS).map(|later| SlotNote::TwoFields(first, later)));
-    }
-    all
-}
-
-/// Every clause broken and repaired, with every event.
-fn clauses() -> Vec<SlotNote> {
-    let mut clauses = vec![Clause::KeptStartupWithoutSync, Clause::CycleAndKeptCycle(64)];
-    clauses.extend(wrong_fields().into_iter().map(|(field, value)| Clause::Setting(field, value)));
-    clauses.extend([0, 2048, 65535].map(Clause::Slot));
-    clauses.extend([64, 255].map(Clause::Cycle));
-    clauses.extend([0, 2048].map(Clause::SlotAndKeptId));
-    clauses.extend([0, 2048, 65535].map(Clause::KeptId));
-    clauses.extend([64, 255].map(Clause::KeptCycle));
-    clauses.extend((0..16).map(Clause::KeptChecksum));
-    clauses.extend((0..64).filter(|marks| with_conflict(*marks) != *marks).map(Clause::Conflict));
-    Kind::BOTH.into_iter().for_each(|kind| clauses.extend(clauses_of(kind)));
-    let both = |clause| EVENTS.map(|letter| [SlotNote::Unsound(clause, letter), SlotNote::Repaired(clause, letter)]);
-    clauses.into_iter().flat_map(both).flatten().collect()
-}
-
-fn clauses_of(kind: Kind) -> Vec<Clause> {
-    let mut all = vec![Clause::ContentErrorWithoutReason(kind), Clause::KeptWithoutValid(kind)];
-    all.extend([Clause::ValidWithoutKept(kind), Clause::KeptWords(kind)]);
-    all.extend(Reason::IN_ORDER.map(|reason| Clause::ReasonWithoutContentError(kind, reason)));
-    all.extend(kind.tests().iter().map(|test| Clause::KeptMisses(kind, *test)));
-    all
-}
-
-fn unlooked() -> Vec<SlotNote> {
-    let mut all: Vec<SlotNote> = [6, 7].map(SlotNote::UnnamedMark).into();
-    all.extend([5, 6, 7].map(SlotNote::UnnamedFlag));
-    all.extend((0..5).map(SlotNote::BehindKept));
-    all
-}
-
-fn frames_between() -> Vec<SlotNote> {
-    Sort::ARRIVALS.map(|arrival| [true, false].map(|accepted| SlotNote::FramesBetween(arrival, accepted))).concat()
-}
-
-#[cfg(test)]
-mod tests {
-    use super::*;
-    use crate::plan::{Expected, Plan};
-    use crate::random::Random;
-    use crate::replay::{Outcome, Replay};
-    use crate::scene::Scene;
-
-    fn stays(commands: &[&Command]) -> bool {
-        let mut plan = Plan::default();
-        commands.iter().for_each(|command| plan.add((*command).clone(), Expected::Anything));
-        let outcomes: Vec<Outcome> = Replay::of(&plan.script()).collect();
-        Reached::count(&plan, &outcomes).counts.contains_key(&Reach::StatusStayed('F', 0))
-    }
-
-    #[test]
-    fn a_status_stays_where_it_has_marks_and_is_shown_unchanged() {
-        let open = Scene::any(&mut Random::from_seed(4)).open();
-        let (frame, event, show) = (Command::checksum(0, &[]), Command::OwnSending, Command::Show);
-        assert!(stays(&[&open, &event, &frame, &show]));
-        assert!(stays(&[&open, &event, &show, &frame, &frame, &show]));
-        assert!(!stays(&[&open, &event, &show, &frame]));
-        assert!(!stays(&[&open, &frame, &show]));
-        assert!(!stays(&[&open, &frame, &show, &event, &show]));
-        assert!(!stays(&[&open, &event, &frame, &event, &show]));
-    }
+fn borders() -> Vec<String> {
+    let (fewest, most) = settings::ends(STATIC_SLOTS);
+    let around = BORDERS.map(|last| (u32::from(last), any([last - 1, last, last + 1])));
+    let far = [(fewest, any([HIGHEST_ID])), (most, any([1, HIGHEST_ID]))];
+    let looks = any(LOOKS);
+    let border = |(last, slots)| format!("look <{looks}> in slot <{slots}> of {last}, words equal: <false|true>");
+    around.into_iter().chain(far).map(border).collect()
 }

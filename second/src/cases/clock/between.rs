@@ -5,7 +5,7 @@ use crate::clock_history::{put, show};
 use crate::clock_numbers::ClockNumbers;
 use crate::clock_scene::fair_clock;
 use crate::faults::{faulty_bench, faulty_checksum, faulty_opening, faulty_read, faulty_write, wrong_value};
-use crate::history::{self, Happening};
+use crate::history::{self, Happening, Sort};
 use crate::plan::{Expected, Plan};
 use crate::random::Random;
 use crate::refusal::{
@@ -14,7 +14,6 @@ use crate::refusal::{
 use crate::scene::{fair_settings, Scene};
 use crate::script::Command;
 use crate::settings::SYNC_ID_LIMIT;
-use crate::slot_note::Sort;
 use crate::status_numbers::StatusNumbers;
 
 pub fn add(plan: &mut Plan, random: &mut Random) {

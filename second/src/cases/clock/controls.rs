@@ -1,20 +1,19 @@
 //! External controls with every term there and missing, in even and odd cycles.
 
 use crate::clock_history::{close_put, put, refuse, Demand};
-use crate::clock_note::ClockNote;
 use crate::clock_numbers::ListNumbers;
 use crate::clock_scene::{list, open_at, row, wide_settings};
 use crate::closing::Controls;
 use crate::plan::Plan;
 use crate::refusal::Refusal;
 use crate::script::Command;
-use crate::settings::{EXTERNAL_OFFSET_UNIT, EXTERNAL_RATE_UNIT};
+use crate::settings::{EXTERNAL_OFFSET_UNIT, EXTERNAL_RATE_UNIT, HIGHEST_UNIT};
 
 const STORED: i32 = -300;
 
 pub fn add(plan: &mut Plan) {
     add_wrong(plan);
-    for (offset_unit, rate_unit) in [(31, 5), (1, 31)] {
+    for (offset_unit, rate_unit) in [(HIGHEST_UNIT.into(), 5), (1, HIGHEST_UNIT.into())] {
         for offset in [-1, 0, 1] {
             for rate in [-1, 0, 1] {
                 let external = [i64::from(offset) * offset_unit, i64::from(rate) * rate_unit];
@@ -32,7 +31,7 @@ fn add_wrong(plan: &mut Plan) {
     for wrong in [-128, -127, -3, -2, 2, 3, 126, 127] {
         for (offset, rate) in [(wrong, 0), (0, wrong), (wrong, -1), (1, wrong), (wrong, wrong)] {
             let command = Command::CloseCycle(Controls { offset, rate });
-            refuse(plan, &held, command, Refusal::Control, ClockNote::Refused('C', Refusal::Control));
+            refuse(plan, &held, command, Refusal::Control);
         }
     }
 }

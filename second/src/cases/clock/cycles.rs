@@ -2,10 +2,9 @@
 
 use crate::channel::Channel;
 use crate::clock::Times;
-use crate::clock_history::{close, load, measure, open, put, refuse, show_noted};
-use crate::clock_note::{ClockNote, Last};
+use crate::clock_history::{close, load, measure, open, put, refuse, show};
 use crate::clock_numbers::{ClockNumbers, ListNumbers};
-use crate::clock_scene::{fair_clock, sync_status, wide_settings};
+use crate::clock_scene::{fair_clock, sync_status, wide_settings, Last};
 use crate::frame::HIGHEST_CYCLE;
 use crate::plan::{Expected, Plan};
 use crate::random::Random;
@@ -17,7 +16,7 @@ pub fn add(plan: &mut Plan, random: &mut Random) {
         add_opened(plan, random, cycle, Last::Before);
         add_opened(plan, random, cycle, OTHERS[usize::from(cycle / 2) % OTHERS.len()]);
     }
-    for cycle in [64, 65, 127, 128, 255] {
+    for cycle in [HIGHEST_CYCLE + 1, HIGHEST_CYCLE + 2, 127, 128, u8::MAX] {
         add_wrong(plan, random, cycle);
     }
     for story in STORIES {
@@ -29,7 +28,7 @@ pub fn add(plan: &mut Plan, random: &mut Random) {
 fn add_wrong(plan: &mut Plan, random: &mut Random, cycle: u8) {
     let held = ClockNumbers { open: false, ..fair_clock(random) };
     put(plan, &held);
-    refuse(plan, &held, Command::OpenCycle(cycle), Refusal::Cycle, ClockNote::Refused('O', Refusal::Cycle));
+    refuse(plan, &held, Command::OpenCycle(cycle), Refusal::Cycle);
 }
 
 /// In turn beside the cycle before, for odd and even cycles alike.
@@ -39,7 +38,7 @@ fn last_cycle(random: &mut Random, cycle: u8, last: Last) -> u8 {
     match last {
         Last::None | Last::Before => (cycle + HIGHEST_CYCLE) % (HIGHEST_CYCLE + 1),
         Last::Same => cycle,
-        Last::Other => (cycle + random.between(1, 62) as u8) % (HIGHEST_CYCLE + 1),
+        Last::Other => (cycle + random.between(1, usize::from(HIGHEST_CYCLE) - 1) as u8) % (HIGHEST_CYCLE + 1),
     }
 }
 
@@ -55,7 +54,7 @@ fn add_opened(plan: &mut Plan, random: &mut Random, cycle: u8, last: Last) {
     let even_stays = cycle % 2 == 1 && last == Last::Before;
     let even = if even_stays { before.lists[0] } else { ListNumbers::default() };
     let after = ClockNumbers { open: true, cycle, lists: [even, ListNumbers::default()], ..before };
-    show_noted(plan, &after, ClockNote::Opened(cycle % 2, last));
+    show(plan, &after);
 }
 
 /// A cycle, the deviation of the one ID that is measured in it, and the line of its closing.

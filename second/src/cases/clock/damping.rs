@@ -4,15 +4,16 @@ use crate::clock_history::{close_put, Demand};
 use crate::clock_scene::{list, open_at, row, wide_settings};
 use crate::closing::Controls;
 use crate::plan::Plan;
-use crate::settings::DRIFT_DAMPING;
+use crate::settings::{DRIFT_DAMPING, HIGHEST_DAMPING};
 
 pub fn add(plan: &mut Plan) {
-    for d in [0, 1, 2, 20] {
+    let most = HIGHEST_DAMPING as i32;
+    for d in [0, 1, 2, most] {
         for (x, damped) in [(d + 5, 5), (d + 1, 1), (d, 0), (-d, 0), (-d - 1, -1), (-d - 5, -5)] {
             add_damped(plan, d, x, damped);
         }
     }
-    for (d, x) in [(1, 0), (2, 1), (2, -1), (20, 19), (20, -19), (20, 0)] {
+    for (d, x) in [(1, 0), (2, 1), (2, -1), (most, most - 1), (most, 1 - most), (most, 0)] {
         add_damped(plan, d, x, 0);
     }
 }

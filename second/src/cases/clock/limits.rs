@@ -5,9 +5,9 @@ use crate::clock_numbers::ClockNumbers;
 use crate::clock_scene::{list, open_at, row, wide_settings};
 use crate::closing::Controls;
 use crate::plan::Plan;
-use crate::settings::{self, EXTERNAL_OFFSET_UNIT, EXTERNAL_RATE_UNIT, OFFSET_LIMIT, RATE_LIMIT};
+use crate::settings::{self, EXTERNAL_OFFSET_UNIT, EXTERNAL_RATE_UNIT, HIGHEST_UNIT, OFFSET_LIMIT, RATE_LIMIT};
 
-const UNIT: i8 = 31;
+const UNIT: i8 = HIGHEST_UNIT as i8;
 
 /// A term, what its limit leaves of it, and whether that is flagged.
 struct Limited {

@@ -1,15 +1,14 @@
 //! The values of 01 "Numbers to check against" that concern the clock.
 
 use crate::channel::Channel;
-use crate::clock::Times;
+use crate::clock::{delay_on, Times};
 use crate::clock_history::{close, close_put, measure, open, put, Demand};
-use crate::clock_note::ClockNote;
 use crate::clock_numbers::RowNumbers;
 use crate::clock_scene::{list, open_at, row_on, sync_status, wide_settings};
 use crate::closing::Controls;
 use crate::plan::Plan;
 use crate::random::Random;
-use crate::settings::{Settings, DECODING_CORRECTION, DELAY_A, DELAY_B, DRIFT_DAMPING, EXTERNAL_RATE_UNIT, RATE_LIMIT};
+use crate::settings::{Settings, DECODING_CORRECTION, DRIFT_DAMPING, EXTERNAL_RATE_UNIT, RATE_LIMIT};
 
 /// 01's midpoints with their values.
 pub const MIDPOINTS: [(&[i32], i64); 6] = [
@@ -20,9 +19,6 @@ pub const MIDPOINTS: [(&[i32], i64); 6] = [
     (&[1, 2, 3, 4, 5, 6, 7], 4),
     (&[1, 2, 3, 4, 5, 6, 7, 8], 4),
 ];
-
-/// What the notes say of them.
-pub const NUMBERS: [&str; 4] = ["midpoint as offset", "midpoint as rate", "deviation", "rate"];
 
 pub fn add(plan: &mut Plan, random: &mut Random) {
     for (values, midpoint) in MIDPOINTS {
@@ -51,7 +47,6 @@ fn add_as_offset(plan: &mut Plan, channel: Channel, values: &[i32], midpoint: i6
         let rate_missing = cycle == 21;
         let demand = Demand { offset: midpoint, rate_missing, ids: values.len(), ..Demand::default() };
         close_put(plan, &before, Controls::NONE, &demand, 0);
-        plan.note_clock(ClockNote::Number01(NUMBERS[0]));
     }
 }
 
@@ -62,21 +57,31 @@ fn add_as_rate(plan: &mut Plan, channel: Channel, values: &[i32], midpoint: i64)
     let before = open_at(wide_settings(false), 21, lists);
     let demand = Demand { offset: midpoint, rate: midpoint, ids: values.len(), ..Demand::default() };
     close_put(plan, &before, Controls::NONE, &demand, midpoint);
-    plan.note_clock(ClockNote::Number01(NUMBERS[1]));
 }
 
-/// Time 1,000, correction 56, delay 40, action point 900: 4. Delay 44: 0. The other channel's delay doesn't count.
+/// Time 1,000, action point 900.
+pub const TIMES_OF_01: Times = Times { observed: 1_000, action_point: 900 };
+
+/// Correction, delay and deviation at these times: 01's two, and the corrections of 002 Table B-37 with 01's delay.
+pub const CORRECTIONS: [(u32, u32, i32); 9] = [
+    (56, 40, 4),
+    (56, 44, 0),
+    (24, 40, 36),
+    (12, 40, 48),
+    (56, 40, 4),
+    (80, 40, -20),
+    (40, 40, 20),
+    (136, 40, -76),
+    (68, 40, -8),
+];
+
+/// The other channel's delay doesn't count.
 fn add_deviations(plan: &mut Plan, random: &mut Random, channel: Channel) {
-    let (own, other) = match channel {
-        Channel::A => (DELAY_A, DELAY_B),
-        Channel::B => (DELAY_B, DELAY_A),
-    };
-    for (delay, deviation) in [(40, 4), (44, 0)] {
-        let settings = wide_settings(false).with_field(DECODING_CORRECTION, 56).with_field(own, delay);
-        put(plan, &open_at(settings.with_field(other, 7), 9, Default::default()));
-        let times = Times { observed: 1_000, action_point: 900 };
-        measure(plan, &sync_status(random, channel, 3, 9), times, deviation);
-        plan.note_clock(ClockNote::Number01(NUMBERS[2]));
+    for (correction, delay, deviation) in &CORRECTIONS[..2] {
+        let settings = wide_settings(false).with_field(DECODING_CORRECTION, *correction);
+        let settings = settings.with_field(delay_on(channel), *delay).with_field(delay_on(channel.other()), 7);
+        put(plan, &open_at(settings, 9, Default::default()));
+        measure(plan, &sync_status(random, channel, 3, 9), TIMES_OF_01, (*deviation).into());
     }
 }
 
@@ -84,6 +89,9 @@ fn damped_settings() -> Settings {
     let settings = wide_settings(false).with_field(DRIFT_DAMPING, 2).with_field(RATE_LIMIT, 10);
     settings.with_field(EXTERNAL_RATE_UNIT, 3)
 }
+
+/// The sum of midpoint and stored rate in 01's three examples, and d.
+pub const DAMPED_OF_01: [(i64, i64); 3] = [(15, 2), (10, 2), (1, 2)];
 
 /// Stored 5, midpoint 10, d 2, limit 10: stored 10, flagged; control -1, unit 3 reports 7. Next midpoint 0: stored 8.
 /// Stored 1, midpoint 0, d 2: 0.
@@ -93,18 +101,15 @@ fn add_rates(plan: &mut Plan, random: &mut Random, channel: Channel) {
     let controls = Controls { offset: 0, rate: -1 };
     let demand = Demand { offset: 30, rate: 7, rate_limited: true, ids: 1, ..Demand::default() };
     close_put(plan, &before, controls, &demand, 10);
-    plan.note_clock(ClockNote::Number01(NUMBERS[3]));
     let next = [(22, "close 0 -6 10 0 0 0 0 1"), (23, "close 0 -6 8 0 0 0 0 1")];
     for (cycle, line) in next {
         open(plan, cycle);
         let times = Times { observed: 60, action_point: 66 };
         measure(plan, &sync_status(random, channel, 1, cycle), times, -6);
         close(plan, line);
-        plan.note_clock(ClockNote::Number01(NUMBERS[3]));
     }
     let mut before = open_at(damped_settings(), 63, [list(&rows(channel, &[-4])), list(&rows(channel, &[-4]))]);
     before.rate = 1;
     let demand = Demand { offset: -4, ids: 1, ..Demand::default() };
     close_put(plan, &before, Controls::NONE, &demand, 0);
-    plan.note_clock(ClockNote::Number01(NUMBERS[3]));
 }

@@ -1,25 +1,15 @@
 //! Terms, limits and corrections that are known from the papers beside 01, played from a load on with their lines.
 
+use super::listed::{CORRECTIONS, TIMES_OF_01};
 use crate::channel::Channel::{self, A, B};
 use crate::clock::Times;
 use crate::clock_history::{close, load, measure, open, NO_TIME};
-use crate::clock_note::ClockNote;
 use crate::clock_scene::{sync_status, wide_settings};
 use crate::history;
 use crate::plan::{Expected, Plan};
 use crate::random::Random;
 use crate::script::Command;
 use crate::settings::{Settings, DECODING_CORRECTION, DELAY_A, DELAY_B, OFFSET_LIMIT, RATE_LIMIT, SYNC_ID_LIMIT};
-
-/// What the notes say of them.
-pub const TERMS: [&str; 6] = [
-    "offsets by hand",
-    "half of 17 and of -17",
-    "rate halves",
-    "IDs of both cycles and the own one beside the limit",
-    "decoding corrections",
-    "highest limits of a cluster",
-];
 
 /// An ID that is measured on a channel, and its deviation.
 type Measured = (u16, Channel, i64);
@@ -38,7 +28,7 @@ pub fn add(plan: &mut Plan, random: &mut Random) {
     add_highest_limits(plan, random);
 }
 
-fn play(plan: &mut Plan, random: &mut Random, settings: Settings, cycles: &[Cycle], name: &'static str) {
+fn play(plan: &mut Plan, random: &mut Random, settings: Settings, cycles: &[Cycle]) {
     load(plan, settings);
     for (cycle, measured, line) in cycles {
         open(plan, *cycle);
@@ -47,7 +37,6 @@ fn play(plan: &mut Plan, random: &mut Random, settings: Settings, cycles: &[Cycl
             measure(plan, &sync_status(random, *channel, *id, *cycle), times, *deviation);
         }
         close(plan, line);
-        plan.note_clock(ClockNote::Number01(name));
     }
 }
 
@@ -65,7 +54,7 @@ fn add_offsets(plan: &mut Plan, random: &mut Random) {
         (sending.with_field(OFFSET_LIMIT, 0), (2, FOUR, "close 0 0 0 0 0 1 0 4")),
     ];
     for (settings, cycle) in cases {
-        play(plan, random, settings, &[cycle], TERMS[0]);
+        play(plan, random, settings, &[cycle]);
     }
 }
 
@@ -104,7 +93,7 @@ fn add_halves_of_17(plan: &mut Plan, random: &mut Random) {
         ),
     ];
     for (sends_sync, cycles) in cases {
-        play(plan, random, wide_settings(sends_sync), &cycles, TERMS[1]);
+        play(plan, random, wide_settings(sends_sync), &cycles);
     }
 }
 
@@ -117,7 +106,7 @@ fn add_rate_halves(plan: &mut Plan, random: &mut Random) {
         (7, &[(3, A, -3), (3, B, -4)], "close 0 -4 -3 0 0 0 0 1"),
     ];
     for case in cases {
-        play(plan, random, wide_settings(false), &[ON_TIME, case], TERMS[2]);
+        play(plan, random, wide_settings(false), &[ON_TIME, case]);
     }
 }
 
@@ -126,33 +115,32 @@ fn add_rate_halves(plan: &mut Plan, random: &mut Random) {
 fn add_beside_the_limit(plan: &mut Plan, random: &mut Random) {
     let cycles: [Cycle; 2] =
         [(8, &[(1, A, 5), (2, B, 7)], "close 0 6 0 0 0 0 0 2"), (9, &[(3, B, 1), (4, A, 2)], "close 0 1 0 0 1 0 0 2")];
-    play(plan, random, wide_settings(false).with_field(SYNC_ID_LIMIT, 2), &cycles, TERMS[3]);
+    play(plan, random, wide_settings(false).with_field(SYNC_ID_LIMIT, 2), &cycles);
     let cycles: [Cycle; 1] = [(8, &[(1, A, 4), (2, B, 6)], "close 0 4 0 0 0 0 0 2")];
-    play(plan, random, wide_settings(true).with_field(SYNC_ID_LIMIT, 2), &cycles, TERMS[3]);
+    play(plan, random, wide_settings(true).with_field(SYNC_ID_LIMIT, 2), &cycles);
     open(plan, 10);
     for (id, line) in [(1, "measure 0 0"), (2, "measure 0 0"), (3, "measure 15 0")] {
         history::put(plan, &sync_status(random, A, id, 10));
         plan.add(Command::Measure(NO_TIME), Expected::line(line));
-        plan.note_clock(ClockNote::Number01(TERMS[3]));
     }
 }
 
-/// 002 Table B-37, with the times and the delay of 01's example.
 fn add_decoding_corrections(plan: &mut Plan, random: &mut Random, channel: Channel) {
-    let cases = [(24, 36), (12, 48), (56, 4), (80, -20), (40, 20), (136, -76), (68, -8)];
-    for (correction, deviation) in cases {
-        let settings = wide_settings(false).with_field(DELAY_A, 40).with_field(DELAY_B, 40);
-        load(plan, settings.with_field(DECODING_CORRECTION, correction));
+    for (correction, delay, deviation) in &CORRECTIONS[2..] {
+        let settings = wide_settings(false).with_field(DELAY_A, *delay).with_field(DELAY_B, *delay);
+        load(plan, settings.with_field(DECODING_CORRECTION, *correction));
         open(plan, 0);
-        let times = Times { observed: 1_000, action_point: 900 };
-        measure(plan, &sync_status(random, channel, 3, 0), times, deviation);
-        plan.note_clock(ClockNote::Number01(TERMS[4]));
+        measure(plan, &sync_status(random, channel, 3, 0), TIMES_OF_01, (*deviation).into());
     }
 }
+
+/// The highest limits of offset and rate that a cluster can have.
+pub const CLUSTER_LIMITS: [u32; 2] = [16_082, 3_846];
 
 /// 002 B.4.18 and B.4.19: 3,846 for the rate and 16,082 for the offset are in range, and act at both ends.
 fn add_highest_limits(plan: &mut Plan, random: &mut Random) {
-    let settings = wide_settings(false).with_field(OFFSET_LIMIT, 16_082).with_field(RATE_LIMIT, 3_846);
+    let [offset, rate] = CLUSTER_LIMITS;
+    let settings = wide_settings(false).with_field(OFFSET_LIMIT, offset).with_field(RATE_LIMIT, rate);
     let cases: [[Cycle; 2]; 4] = [
         [(0, &[(1, A, 16_082)], "close 0 16082 0 0 0 0 0 1"), (1, &[(1, A, 19_928)], "close 0 16082 3846 0 0 1 0 1")],
         [(0, &[(1, B, 16_083)], "close 0 16082 0 0 0 1 0 1"), (1, &[(1, B, 19_930)], "close 0 16082 3846 0 0 1 1 1")],
@@ -166,6 +154,6 @@ fn add_highest_limits(plan: &mut Plan, random: &mut Random) {
         ],
     ];
     for cycles in cases {
-        play(plan, random, settings, &cycles, TERMS[5]);
+        play(plan, random, settings, &cycles);
     }
 }

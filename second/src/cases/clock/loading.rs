@@ -1,9 +1,8 @@
 //! Loading: the ends of every range, every field out of range, and that nothing stays of what was listed before.
 
+use super::listed::TIMES_OF_01;
 use crate::channel::Channel;
-use crate::clock::Times;
-use crate::clock_history::{close, load, measure, open, put, refuse_all, show, show_noted};
-use crate::clock_note::ClockNote;
+use crate::clock_history::{close, load, measure, open, put, refuse_all, show};
 use crate::clock_numbers::ClockNumbers;
 use crate::clock_scene::{fair_clock, open_at, row_on, sync_status, wide_settings};
 use crate::draft::fair_cycle;
@@ -17,7 +16,7 @@ use crate::settings::{self, Settings, DELAY_A, DELAY_B, FIELDS};
 pub fn add(plan: &mut Plan, random: &mut Random) {
     let zeros = ClockNumbers::default();
     show(plan, &zeros);
-    refuse_all(plan, &zeros, ClockNote::NeverLoaded);
+    refuse_all(plan, &zeros);
     for field in 1..=FIELDS {
         let (lowest, highest) = settings::ends(field);
         for value in [lowest, highest] {
@@ -32,7 +31,6 @@ pub fn add(plan: &mut Plan, random: &mut Random) {
             let with_later = fair_settings(random).with_field(later, wrong_value(random, later));
             let settings = with_later.with_field(field, wrong_value(random, field));
             add_refused(plan, random, settings, field);
-            plan.note_clock(ClockNote::TwoFields(field, later));
         }
     }
     for channel in Channel::BOTH {
@@ -59,7 +57,7 @@ fn add_refused(plan: &mut Plan, random: &mut Random, settings: Settings, field: 
     plan.add(Command::Load(settings), Expected::Line(format!("load 17 {field}")));
     let zeros = ClockNumbers::default();
     show(plan, &zeros);
-    refuse_all(plan, &zeros, ClockNote::ZerosAfterLoad);
+    refuse_all(plan, &zeros);
 }
 
 /// A sheet with a delay of 40 on both channels.
@@ -67,21 +65,17 @@ fn delayed() -> Settings {
     wide_settings(false).with_field(DELAY_A, 40).with_field(DELAY_B, 40)
 }
 
-const TIMES: Times = Times { observed: 1_000, action_point: 900 };
-
 /// New delays while old deviations are listed: no cycle is open any more, and the same ID can be measured again.
 fn add_loaded_in_an_open_cycle(plan: &mut Plan, random: &mut Random, channel: Channel) {
     let (old, new) = (wide_settings(false), delayed());
     let status = sync_status(random, channel, 5, 4);
     load(plan, old);
     open(plan, 4);
-    measure(plan, &status, TIMES, 100);
+    measure(plan, &status, TIMES_OF_01, 100);
     load(plan, new);
-    show_noted(plan, &fresh(new), ClockNote::Forgotten('D'));
+    show(plan, &fresh(new));
     open(plan, 4);
-    plan.note_clock(ClockNote::Forgotten('O'));
-    measure(plan, &status, TIMES, 60);
-    plan.note_clock(ClockNote::Forgotten('M'));
+    measure(plan, &status, TIMES_OF_01, 60);
     let mut after = open_at(new, 4, Default::default());
     after.lists[0].count = 1;
     after.lists[0].rows[0] = row_on(5, channel, 60);
@@ -90,7 +84,6 @@ fn add_loaded_in_an_open_cycle(plan: &mut Plan, random: &mut Random, channel: Ch
     load(plan, old);
     open(plan, 6);
     close(plan, "close 0 0 0 1 0 0 0 0");
-    plan.note_clock(ClockNote::Forgotten('C'));
 }
 
 /// An even cycle before the load makes no pair with the odd one behind it.
@@ -98,12 +91,11 @@ fn add_loaded_between_two_cycles(plan: &mut Plan, random: &mut Random, channel: 
     let new = delayed();
     load(plan, wide_settings(false));
     open(plan, 4);
-    measure(plan, &sync_status(random, channel, 5, 4), TIMES, 100);
+    measure(plan, &sync_status(random, channel, 5, 4), TIMES_OF_01, 100);
     close(plan, "close 0 100 0 0 0 0 0 1");
     load(plan, new);
     open(plan, 5);
     show(plan, &open_at(new, 5, Default::default()));
-    measure(plan, &sync_status(random, channel, 5, 5), TIMES, 60);
+    measure(plan, &sync_status(random, channel, 5, 5), TIMES_OF_01, 60);
     close(plan, "close 0 60 0 0 1 0 0 1");
-    plan.note_clock(ClockNote::Forgotten('C'));
 }

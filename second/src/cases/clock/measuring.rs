@@ -2,26 +2,29 @@
 
 use crate::channel::Channel;
 use crate::clock::{Times, LATEST};
+use crate::clock_faults::Unfit;
 use crate::clock_history::{load, measure, open, put, refuse, refuse_measure, show};
-use crate::clock_note::{ClockNote, Unfit};
 use crate::clock_numbers::ClockNumbers;
 use crate::clock_scene::{fair_clock, open_at, row_on, settings_with_static, status_with, sync_status, wide_settings};
+use crate::frame::{HIGHEST_CYCLE, HIGHEST_ID};
 use crate::history;
 use crate::plan::{Expected, Plan};
 use crate::random::Random;
 use crate::refusal::Refusal;
 use crate::scene::{Kind, Scene};
 use crate::script::Command;
-use crate::settings::{Settings, DECODING_CORRECTION, DELAY_A, DELAY_B, FIELDS, STATIC_SLOTS};
+use crate::settings::{
+    self, Settings, DECODING_CORRECTION, DELAY_A, DELAY_B, FIELDS, HIGHEST_CORRECTION, HIGHEST_DELAY, OFFSET_LIMIT,
+    RANGES, RATE_LIMIT, STATIC_SLOTS, STATIC_WORDS, SYNC_ID_LIMIT,
+};
 use crate::status_numbers::StatusNumbers;
 
 const TIMES: [u32; 7] = [0, 1, LATEST - 1, LATEST, LATEST + 1, 0x8000_0000, u32::MAX];
 
 pub fn add(plan: &mut Plan, random: &mut Random) {
     for channel in Channel::BOTH {
-        for late in [0, 255] {
-            add_times(plan, random, channel, late);
-        }
+        add_times(plan, random, channel, late_settings(0, 0));
+        add_times(plan, random, channel, late_settings(HIGHEST_CORRECTION, HIGHEST_DELAY));
         for unfit in Unfit::ALL {
             add_unfit(plan, random, channel, unfit);
         }
@@ -32,14 +35,14 @@ pub fn add(plan: &mut Plan, random: &mut Random) {
     add_unsound_statuses(plan, random);
 }
 
-fn late_settings(late: u32) -> Settings {
-    let delayed = wide_settings(false).with_field(DELAY_A, late).with_field(DELAY_B, late);
-    delayed.with_field(DECODING_CORRECTION, late)
+fn late_settings(correction: u32, delay: u32) -> Settings {
+    let delayed = wide_settings(false).with_field(DELAY_A, delay).with_field(DELAY_B, delay);
+    delayed.with_field(DECODING_CORRECTION, correction)
 }
 
 /// Every time at the ends of its range and beyond, with no delay at all and with the longest ones.
-fn add_times(plan: &mut Plan, random: &mut Random, channel: Channel, late: u32) {
-    let held = open_at(late_settings(late), 6, Default::default());
+fn add_times(plan: &mut Plan, random: &mut Random, channel: Channel, settings: Settings) {
+    let held = open_at(settings, 6, Default::default());
     let status = sync_status(random, channel, 77, 6);
     put(plan, &held);
     for observed in TIMES {
@@ -53,10 +56,9 @@ fn add_times(plan: &mut Plan, random: &mut Random, channel: Channel, late: u32) 
 fn add_time(plan: &mut Plan, held: &ClockNumbers, status: &StatusNumbers, times: Times) {
     if times.observed > LATEST || times.action_point > LATEST {
         history::put(plan, status);
-        let note = ClockNote::Refused('M', Refusal::Time);
-        return refuse(plan, held, Command::Measure(times), Refusal::Time, note);
+        return refuse(plan, held, Command::Measure(times), Refusal::Time);
     }
-    let late = 2 * i64::from(held.settings.field(DECODING_CORRECTION));
+    let late = held.settings.signed(DECODING_CORRECTION) + held.settings.signed(DELAY_A);
     let deviation = i64::from(times.observed) - i64::from(times.action_point) - late;
     measure(plan, status, times, deviation);
     let mut after = *held;
@@ -77,9 +79,9 @@ fn add_unfit(plan: &mut Plan, random: &mut Random, channel: Channel, unfit: Unfi
         Unfit::NotStatic => [4, 5, 6, 7].map(|flags| status_with(dynamic, channel, 300, 6, flags)).into(),
     };
     for status in statuses {
-        let held = open_at(late_settings(20), 6, Default::default());
+        let held = open_at(late_settings(20, 20), 6, Default::default());
         put(plan, &held);
-        refuse_measure(plan, &held, &status, Refusal::NoSyncFrame, ClockNote::Unfit(unfit));
+        refuse_measure(plan, &held, &status, Refusal::NoSyncFrame);
     }
 }
 
@@ -87,31 +89,33 @@ fn add_fit_by_status(plan: &mut Plan, random: &mut Random, channel: Channel) {
     let settings = wide_settings(false).with_field(STATIC_SLOTS, 299);
     put(plan, &open_at(settings, 6, Default::default()));
     measure(plan, &sync_status(random, channel, 300, 6), Times { observed: 8, action_point: 5 }, 3);
-    plan.note_clock(ClockNote::FitByStatus);
 }
 
 /// The clock state's correction and delay on this channel, and neither the other channel's nor any of the status's.
 fn add_other_delays(plan: &mut Plan, random: &mut Random, channel: Channel) {
-    let fields = [11, 30, 50, 15, 20_000, 4_000, 0, 0, 0, 0, 1023];
+    let settings = wide_settings(false).with_field(DECODING_CORRECTION, 11);
+    let settings = settings.with_field(DELAY_A, 30).with_field(DELAY_B, 50);
     let deviation = match channel {
         Channel::A => 59,
         Channel::B => 39,
     };
-    for limit in [2, 15] {
-        put(plan, &open_at(Settings { fields, sends_sync: false }, 6, Default::default()));
-        let of_status = [255, 200, 100, limit, 0, 0, 20, 31, 31, 0, 1023];
-        let settings = Settings { fields: of_status, sends_sync: random.coin() };
-        let status = status_with(settings, channel, 2, 6, 0b01000);
+    let (fewest, most) = settings::ends(SYNC_ID_LIMIT);
+    for limit in [fewest, most] {
+        put(plan, &open_at(settings, 6, Default::default()));
+        let highest = Settings { fields: RANGES.map(|range| *range.end()), sends_sync: random.coin() };
+        let late = highest.with_field(DELAY_A, 200).with_field(DELAY_B, 100).with_field(SYNC_ID_LIMIT, limit);
+        let of_status =
+            [OFFSET_LIMIT, RATE_LIMIT, STATIC_WORDS].iter().fold(late, |all, field| all.with_field(*field, 0));
+        let status = status_with(of_status, channel, 2, 6, 0b01000);
         measure(plan, &status, Times { observed: 600, action_point: 500 }, deviation);
-        plan.note_clock(ClockNote::OtherDelays(channel));
     }
 }
 
 /// Slots that were really opened, in which frames arrive among other things.
 fn add_arrived(plan: &mut Plan, random: &mut Random, channel: Channel) {
-    load(plan, late_settings(0));
+    load(plan, late_settings(0, 0));
     open(plan, 33);
-    let mut held = open_at(late_settings(0), 33, Default::default());
+    let mut held = open_at(late_settings(0, 0), 33, Default::default());
     for place in 0..6 {
         let slot = Scene { slot: 40 + place, cycle: 33, ..Scene::fair(random, channel, Kind::Static) };
         let settings = settings_with_static(random, slot.slot);
@@ -120,13 +124,7 @@ fn add_arrived(plan: &mut Plan, random: &mut Random, channel: Channel) {
         good.indicators.sync = true;
         plan.add(slot.open(), Expected::line("slot 0 0"));
         plan.add(Command::OwnSending, Expected::line("event 0"));
-        refuse(
-            plan,
-            &held,
-            Command::Measure(Times { observed: 9, action_point: 2 }),
-            Refusal::NoSyncFrame,
-            ClockNote::Unfit(Unfit::NoValidFrame),
-        );
+        refuse(plan, &held, Command::Measure(Times { observed: 9, action_point: 2 }), Refusal::NoSyncFrame);
         plan.add(Command::Arrived(good.bytes()), Expected::line("event 0"));
         let later = slot.good(random);
         plan.add(Command::Arrived(later.bytes()), Expected::line("event 0"));
@@ -145,13 +143,13 @@ fn add_unsound_statuses(plan: &mut Plan, random: &mut Random) {
         let sound = sync_status(random, channel, 45, 7);
         put(plan, &held);
         let unsound = unsound_status(random, &sound, change);
-        refuse_measure(plan, &held, &unsound, Refusal::NotSound, ClockNote::UnsoundStatus(change));
+        refuse_measure(plan, &held, &unsound, Refusal::NotSound);
         history::put(plan, &sound);
         plan.add(Command::Measure(Times { observed: 9, action_point: 2 }), Expected::Accepted);
     }
 }
 
-pub const UNSOUND_STATUSES: u8 = 17;
+const UNSOUND_STATUSES: u8 = 17;
 
 fn unsound_status(random: &mut Random, sound: &StatusNumbers, change: u8) -> StatusNumbers {
     let mut changed = *sound;
@@ -167,10 +165,10 @@ fn unsound_status(random: &mut Random, sound: &StatusNumbers, change: u8) -> Sta
         8 => changed.marks |= 32,
         9 => changed.header.checksum ^= 1,
         10 => changed.header.words ^= 1,
-        11 => changed.header.cycle ^= 64,
+        11 => changed.header.cycle ^= HIGHEST_CYCLE + 1,
         12 => (changed.slot, changed.header.id) = (0, 0),
-        13 => (changed.slot, changed.header.id) = (2048, 2048),
-        14 => (changed.cycle, changed.header.cycle) = (64, 64),
+        13 => (changed.slot, changed.header.id) = (HIGHEST_ID + 1, HIGHEST_ID + 1),
+        14 => (changed.cycle, changed.header.cycle) = (HIGHEST_CYCLE + 1, HIGHEST_CYCLE + 1),
         15 => changed.header.flags = 0b10100,
         // The slot is dynamic then, where no sync frame can be kept.
         _ => changed.settings = sound.settings.with_field(STATIC_SLOTS, 44),

@@ -1,7 +1,6 @@
 //! Which deviations count: the smaller of two for the offset, and for the rate those of channels seen in both cycles.
 
 use crate::clock_history::{close_put, Demand};
-use crate::clock_note::ClockNote;
 use crate::clock_numbers::{ClockNumbers, RowNumbers};
 use crate::clock_scene::{list, open_at, row, wide_settings};
 use crate::closing::Controls;
@@ -55,7 +54,6 @@ fn add_seen(plan: &mut Plan, even: u8, odd: u8) {
         let term = midpoint.unwrap_or(0) + 3;
         let demand = Demand { rate: term, rate_missing: rate.is_none(), ids: 1, ..Demand::default() };
         close_put(plan, &before, Controls::NONE, &demand, term);
-        plan.note_clock(ClockNote::Seen(even, odd));
     }
 }
 
@@ -77,7 +75,6 @@ fn add_even(plan: &mut Plan) {
         let before = ClockNumbers { rate: stored, ..open_at(wide_settings(false), 30, lists) };
         let demand = Demand { offset: -20, rate: stored.into(), ids: 1, ..Demand::default() };
         close_put(plan, &before, Controls::NONE, &demand, stored.into());
-        plan.note_clock(ClockNote::PairsInEvenCycle);
     }
 }
 

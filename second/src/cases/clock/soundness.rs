@@ -3,19 +3,19 @@
 use crate::channel::Channel;
 use crate::clock::Times;
 use crate::clock_history::{put, refuse_all, show};
-use crate::clock_note::{ClockClause, ClockNote};
 use crate::clock_numbers::{ClockNumbers, ListNumbers};
 use crate::clock_scene::{open_at, row, sync_status, wide_settings};
 use crate::closing::Controls;
+use crate::faults::WRONG_IDS;
+use crate::frame::{HIGHEST_CYCLE, HIGHEST_ID};
 use crate::history;
 use crate::plan::{Expected, Plan};
 use crate::random::Random;
 use crate::script::Command;
-use crate::settings::{self, FIELDS, RATE_LIMIT, SYNC_ID_LIMIT};
-use crate::sync_list::PLACES;
+use crate::settings::{self, FIELDS, HIGHEST_RATE_LIMIT, RATE_LIMIT, SYNC_ID_LIMIT};
+use crate::sync_list::{DEVIATIONS, PLACES};
 
 struct Pair {
-    clause: ClockClause,
     sound: ClockNumbers,
     unsound: ClockNumbers,
 }
@@ -45,25 +45,21 @@ fn add_unsound(plan: &mut Plan, random: &mut Random, pair: &Pair) {
     history::put(plan, &sync_status(random, Channel::B, MEASURED, pair.sound.cycle));
     put(plan, &pair.unsound);
     show(plan, &pair.unsound);
-    refuse_all(plan, &pair.unsound, |letter| ClockNote::Unsound(pair.clause, letter));
+    refuse_all(plan, &pair.unsound);
 }
 
 fn add_repaired(plan: &mut Plan, random: &mut Random, pair: &Pair) {
-    let repaired = |letter| ClockNote::Repaired(pair.clause, letter);
     put(plan, &pair.sound);
     history::put(plan, &sync_status(random, Channel::B, MEASURED, pair.sound.cycle));
     plan.add(Command::Measure(Times { observed: 70, action_point: 70 }), Expected::Accepted);
-    plan.note_clock(repaired('M'));
     plan.add(Command::Show, Expected::Anything);
     plan.add(Command::CloseCycle(Controls::NONE), Expected::Accepted);
-    plan.note_clock(repaired('C'));
     plan.add(Command::Show, Expected::Anything);
     // Closing changes these two, all else is still as it was put.
-    if matches!(pair.clause, ClockClause::LastCycle(_) | ClockClause::Rate(..)) {
+    if (pair.sound.last, pair.sound.rate) != (pair.unsound.last, pair.unsound.rate) {
         put(plan, &ClockNumbers { open: false, ..pair.sound });
     }
     plan.add(Command::OpenCycle(pair.sound.cycle), Expected::Accepted);
-    plan.note_clock(repaired('O'));
     plan.add(Command::Show, Expected::Anything);
 }
 
@@ -84,34 +80,31 @@ fn settings(field: usize) -> Vec<Pair> {
     let pair = |(wrong, right)| {
         let sound = ClockNumbers { settings: wide_settings(false).with_field(field, right), ..good(1) };
         let unsound = ClockNumbers { settings: sound.settings.with_field(field, wrong), ..sound };
-        Pair { clause: ClockClause::Setting(field, wrong), sound, unsound }
+        Pair { sound, unsound }
     };
     settings::beyond(field).into_iter().map(pair).collect()
 }
 
 fn cycles() -> Vec<Pair> {
     let mut pairs = Vec::new();
-    for wrong in [64, 65, 128, 255] {
-        let sound = ClockNumbers { cycle: 63, ..good(3) };
+    for wrong in [HIGHEST_CYCLE + 1, HIGHEST_CYCLE + 2, 128, u8::MAX] {
+        let sound = ClockNumbers { cycle: HIGHEST_CYCLE, ..good(3) };
         let unsound = ClockNumbers { cycle: wrong, ..sound };
-        pairs.push(Pair { clause: ClockClause::OpenCycle(wrong), sound, unsound });
-        let sound = ClockNumbers { closed: true, last: 63, ..good(3) };
+        pairs.push(Pair { sound, unsound });
+        let sound = ClockNumbers { closed: true, last: HIGHEST_CYCLE, ..good(3) };
         let unsound = ClockNumbers { last: wrong, ..sound };
-        pairs.push(Pair { clause: ClockClause::LastCycle(wrong), sound, unsound });
+        pairs.push(Pair { sound, unsound });
     }
     pairs
 }
 
 fn rates() -> Vec<Pair> {
     let mut pairs = Vec::new();
-    for limit in [0, 1, 4_000] {
+    for limit in [0, 1, HIGHEST_RATE_LIMIT as i32] {
         for (right, beyond) in [(limit, [limit + 1, i32::MAX]), (-limit, [-limit - 1, i32::MIN])] {
             let settings = wide_settings(false).with_field(RATE_LIMIT, limit as u32);
             let sound = ClockNumbers { settings, rate: right, ..good(3) };
-            let wrong = |rate| {
-                let clause = ClockClause::Rate(limit as u32, rate);
-                Pair { clause, sound, unsound: ClockNumbers { rate, ..sound } }
-            };
+            let wrong = |rate| Pair { sound, unsound: ClockNumbers { rate, ..sound } };
             pairs.extend(beyond.map(wrong));
         }
     }
@@ -125,14 +118,18 @@ fn with_list(clock: &ClockNumbers, place: usize, list: ListNumbers) -> ClockNumb
     with
 }
 
+const MOST: u8 = PLACES as u8;
+
 /// As many as the limit, and one more; the rows are good ones in any case.
 fn counts(place: usize) -> Vec<Pair> {
     let mut pairs = Vec::new();
-    for (limit, wrong) in [(2, 3), (3, 4), (14, 15), (15, 16), (15, 17), (15, 128), (15, 255), (2, 255)] {
-        let settings = wide_settings(false).with_field(SYNC_ID_LIMIT, limit);
-        let sound = with_list(&ClockNumbers { settings, ..good(1) }, place, good_list(limit as u8));
+    for (limit, wrong) in
+        [(2, 3), (3, 4), (MOST - 1, MOST), (MOST, MOST + 1), (MOST, MOST + 2), (MOST, 128), (MOST, 255), (2, 255)]
+    {
+        let settings = wide_settings(false).with_field(SYNC_ID_LIMIT, limit.into());
+        let sound = with_list(&ClockNumbers { settings, ..good(1) }, place, good_list(limit));
         let unsound = with_list(&sound, place, good_list(wrong));
-        pairs.push(Pair { clause: ClockClause::Count(place, limit, wrong), sound, unsound });
+        pairs.push(Pair { sound, unsound });
     }
     pairs
 }
@@ -141,13 +138,13 @@ fn counts(place: usize) -> Vec<Pair> {
 fn ids(place: usize) -> Vec<Pair> {
     let mut pairs = Vec::new();
     for at in [1, PLACES - 1] {
-        for (right, wrong) in [(1, 0), (2047, 2048), (2047, 65535)] {
+        for (right, wrong) in WRONG_IDS.map(|wrong| (wrong.clamp(1, HIGHEST_ID), wrong)) {
             let with = |id| {
                 let mut list = good_list(PLACES as u8);
                 list.rows[at].id = id;
                 with_list(&good(3), place, list)
             };
-            pairs.push(Pair { clause: ClockClause::Id(place, at, wrong), sound: with(right), unsound: with(wrong) });
+            pairs.push(Pair { sound: with(right), unsound: with(wrong) });
         }
     }
     pairs
@@ -165,8 +162,7 @@ fn rows(place: usize) -> Vec<Pair> {
                 list.rows[3].id = id;
                 with_list(&good(3), place, list)
             };
-            let clause = ClockClause::Twice(place, first, second);
-            pairs.push(Pair { clause, sound: with(999), unsound: with(MEASURED + 1) });
+            pairs.push(Pair { sound: with(999), unsound: with(MEASURED + 1) });
         }
     }
     for at in [1, PLACES - 1] {
@@ -175,27 +171,26 @@ fn rows(place: usize) -> Vec<Pair> {
             list.rows[at].seen = seen;
             with_list(&good(3), place, list)
         };
-        pairs.push(Pair { clause: ClockClause::Unseen(place), sound: with(2), unsound: with(0) });
+        pairs.push(Pair { sound: with(2), unsound: with(0) });
         // Bits that are not looked at don't help.
-        pairs.push(Pair { clause: ClockClause::Unseen(place), sound: with(0b1111_1101), unsound: with(0b1111_1100) });
+        pairs.push(Pair { sound: with(0b1111_1101), unsound: with(0b1111_1100) });
     }
     pairs
 }
 
 fn deviations(place: usize) -> Vec<Pair> {
-    const BEYOND: [(i32, i32); 4] =
-        [(1_280_000, 1_280_001), (1_280_000, i32::MAX), (-1_280_510, -1_280_511), (-1_280_510, i32::MIN)];
+    let (lowest, highest) = (*DEVIATIONS.start(), *DEVIATIONS.end());
+    let beyond = [highest + 1, i32::MAX, lowest - 1, i32::MIN].map(|wrong| (wrong.clamp(lowest, highest), wrong));
     let mut pairs = Vec::new();
     for channel in Channel::BOTH {
-        for (right, wrong) in BEYOND {
+        for (right, wrong) in beyond {
             let with = |deviation| {
                 let mut list = good_list(2);
                 list.rows[1].seen = 3;
                 list.rows[1].deviations[usize::from(channel.number())] = deviation;
                 with_list(&good(3), place, list)
             };
-            let clause = ClockClause::Deviation(place, channel, wrong);
-            pairs.push(Pair { clause, sound: with(right), unsound: with(wrong) });
+            pairs.push(Pair { sound: with(right), unsound: with(wrong) });
         }
     }
     pairs

@@ -1,8 +1,7 @@
 //! The limit of different IDs in a cycle, and rows that a new ID takes over.
 
 use crate::channel::Channel;
-use crate::clock_history::{measure, put, refuse_measure, show_noted, NO_TIME};
-use crate::clock_note::ClockNote;
+use crate::clock_history::{measure, put, refuse_measure, show, NO_TIME};
 use crate::clock_numbers::{ClockNumbers, ListNumbers, RowNumbers};
 use crate::clock_scene::{open_at, row_on, sync_status, wide_settings};
 use crate::plan::Plan;
@@ -47,20 +46,17 @@ fn add_limit(plan: &mut Plan, random: &mut Random, limit: u32, cycle: u8, channe
     measure(plan, &sync_status(random, channel, 9, cycle), NO_TIME, 0);
     held.lists[place].count += 1;
     held.lists[place].rows[count - 1] = row_on(9, channel, 0);
-    show_noted(plan, &held, ClockNote::LastTaken(place, limit));
-    plan.note_clock(ClockNote::RowTakenOver(place));
-    let full = ClockNote::OneMoreRefused(place, limit);
+    show(plan, &held);
     for strange in [channel, channel.other()] {
-        refuse_measure(plan, &held, &sync_status(random, strange, 10, cycle), Refusal::ListFull, full);
+        refuse_measure(plan, &held, &sync_status(random, strange, 10, cycle), Refusal::ListFull);
     }
-    let again = ClockNote::Refused('M', Refusal::MeasuredAlready);
     for id in [100, 9] {
-        refuse_measure(plan, &held, &sync_status(random, channel, id, cycle), Refusal::MeasuredAlready, again);
+        refuse_measure(plan, &held, &sync_status(random, channel, id, cycle), Refusal::MeasuredAlready);
         measure(plan, &sync_status(random, channel.other(), id, cycle), NO_TIME, 0);
         let row = held.lists[place].rows.iter_mut().find(|row| row.id == id).expect("the ID is listed");
         row.seen = 3;
-        show_noted(plan, &held, ClockNote::OtherChannelTaken(place, limit));
-        refuse_measure(plan, &held, &sync_status(random, channel.other(), id, cycle), Refusal::MeasuredAlready, again);
+        show(plan, &held);
+        refuse_measure(plan, &held, &sync_status(random, channel.other(), id, cycle), Refusal::MeasuredAlready);
     }
 }
 
@@ -74,10 +70,9 @@ fn add_from_the_first(plan: &mut Plan, random: &mut Random, channel: Channel) {
         held.lists[0].count += 1;
         held.lists[0].rows[place] = row_on(id, channel, 0);
     }
-    show_noted(plan, &held, ClockNote::LastTaken(0, 15));
-    let full = ClockNote::OneMoreRefused(0, 15);
-    refuse_measure(plan, &held, &sync_status(random, channel, 1, 50), Refusal::ListFull, full);
+    show(plan, &held);
+    refuse_measure(plan, &held, &sync_status(random, channel, 1, 50), Refusal::ListFull);
     measure(plan, &sync_status(random, channel.other(), 160, 50), NO_TIME, 0);
-    held.lists[0].rows[14].seen = 3;
-    show_noted(plan, &held, ClockNote::OtherChannelTaken(0, 15));
+    held.lists[0].rows[PLACES - 1].seen = 3;
+    show(plan, &held);
 }

@@ -1,28 +1,30 @@
 //! What a script says of a clock state but nobody looks at, and counts that are shown as they stand.
 
 use crate::channel::Channel;
-use crate::clock_history::{close_put, put, show_noted, Demand};
-use crate::clock_note::ClockNote;
+use crate::clock_history::{close_put, put, show, Demand};
 use crate::clock_numbers::{ClockNumbers, ListNumbers, RowNumbers};
 use crate::clock_scene::{fair_clock, list, open_at, row_on, wide_settings};
 use crate::closing::Controls;
+use crate::frame::HIGHEST_CYCLE;
 use crate::plan::{Expected, Plan};
 use crate::random::Random;
 use crate::script::Command;
-use crate::sync_list::PLACES;
+use crate::sync_list::{DEVIATIONS, PLACES};
+
+const MOST: u8 = PLACES as u8;
 
 /// Counts below, at and above the places of a list.
-pub const COUNTS: [u8; 9] = [0, 1, 3, 14, 15, 16, 17, 128, 255];
+pub const COUNTS: [u8; 9] = [0, 1, 3, MOST - 1, MOST, MOST + 1, MOST + 2, 128, u8::MAX];
 
 pub fn add(plan: &mut Plan, random: &mut Random) {
     for bit in 2..8 {
         add_seen(plan, bit);
     }
-    for number in [0, 1, 63, 64, 255] {
+    for number in [0, 1, HIGHEST_CYCLE, HIGHEST_CYCLE + 1, u8::MAX] {
         add_behind_switches(plan, random, number);
     }
     for channel in Channel::BOTH {
-        for strange in [1, 1_280_001, i32::MIN, i32::MAX] {
+        for strange in [1, DEVIATIONS.end() + 1, i32::MIN, i32::MAX] {
             add_deviation(plan, channel, strange);
         }
     }
@@ -38,7 +40,7 @@ fn add_seen(plan: &mut Plan, bit: u8) {
         let rows = list(&[RowNumbers { seen: plain.seen | 1 << bit, ..plain }]);
         let before = open_at(wide_settings(false), 3, [rows, rows]);
         put(plan, &before);
-        show_noted(plan, &before, ClockNote::UnnamedSeen(bit));
+        show(plan, &before);
         let demand = Demand { offset: -14, ids: 1, ..Demand::default() };
         close_put(plan, &before, Controls::NONE, &demand, 0);
     }
@@ -49,18 +51,18 @@ fn add_behind_switches(plan: &mut Plan, random: &mut Random, number: u8) {
     let fair = fair_clock(random);
     let closed = ClockNumbers { open: false, cycle: number, ..fair };
     put(plan, &closed);
-    show_noted(plan, &closed, ClockNote::BehindSwitch('O'));
+    show(plan, &closed);
     plan.add(Command::OpenCycle(2), Expected::Accepted);
     let none_before = ClockNumbers { open: true, cycle: 1, closed: false, last: number, ..fair };
     put(plan, &none_before);
-    show_noted(plan, &none_before, ClockNote::BehindSwitch('C'));
+    show(plan, &none_before);
     plan.add(Command::CloseCycle(Controls::NONE), Expected::Accepted);
     // Nor is it the last closed cycle: the even list goes.
     let none_closed = ClockNumbers { open: false, closed: false, last: 0, ..fair };
     put(plan, &none_closed);
     plan.add(Command::OpenCycle(1), Expected::Accepted);
     let after = ClockNumbers { lists: Default::default(), open: true, cycle: 1, ..none_closed };
-    show_noted(plan, &after, ClockNote::BehindSwitch('C'));
+    show(plan, &after);
 }
 
 /// A number on the channel that isn't seen, whatever it is.
@@ -69,7 +71,7 @@ fn add_deviation(plan: &mut Plan, channel: Channel, strange: i32) {
     plain.deviations[usize::from(channel.other().number())] = strange;
     let before = open_at(wide_settings(false), 3, [list(&[plain]), list(&[plain])]);
     put(plan, &before);
-    show_noted(plan, &before, ClockNote::UnlookedDeviation(channel));
+    show(plan, &before);
     let demand = Demand { offset: 30, ids: 1, ..Demand::default() };
     close_put(plan, &before, Controls::NONE, &demand, 0);
 }
@@ -85,6 +87,6 @@ fn add_counts(plan: &mut Plan, random: &mut Random, count: u8) {
         });
         numbers.lists[place] = ListNumbers { count, rows };
         put(plan, &numbers);
-        show_noted(plan, &numbers, ClockNote::CountShown(count));
+        show(plan, &numbers);
     }
 }
