@@ -19,7 +19,7 @@ fn main() {
 }
 
 // What is to be written for what was read: puts it into the line, and answers its size. The first `size` bytes of the front were
-// read; that there is room for 264 bytes, and for 21, is required, since with less some input would get the line of another.
+// read; that there is room for the front and for the longest line is required, since with less some input would get the line of another.
 fn answer(front: &[u8], size: usize, line: &mut [u8]) -> usize
     requires { ⌜ (length (now front) ≡ Line·front) × (size ≤ length (now front)) × (length (now line) ≡ longest) ⌝ }
     ensures { λ r. ⌜ Answers (take size (now (front .entry))) (take r (now (line .exit))) ⌝ }

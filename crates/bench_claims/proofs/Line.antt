@@ -5,7 +5,7 @@ use mathlib.Core.Bool.{Bool, true, false, cond, _&&_}
 use mathlib.Core.List.{List, [], _∷_, _++_}
 use native.Mathlib.Omega.{arith}
 use lib.Dec.{leb}
-use lib.ListN.{length, take, drop, replicate, length-append}
+use lib.ListN.{length, take, replicate, length-append}
 use lib.Seq.{length-take-le, take-all}
 use borrow.Author.Tests.{le-ltb, lt-ltb, leb-true, leb-false}
 use Rattle.numbers.proofs.Truth.{both-true}
@@ -89,7 +89,7 @@ accepted-short h i c w =
       decimal-short 2 (h .words) (omega arith),
     )
 
-refused-short : (n : ℕ) → n < 10 → length (refusedLine n) ≤ 21
+refused-short : (n : ℕ) → n < 10 → length (refusedLine n) ≤ longest
 refused-short n h =
     omega (arith, length-append (refusedWord ++ behindSpace n) lineFeed, length-append refusedWord (behindSpace n), decimal-short 0 n h)
 
@@ -119,6 +119,6 @@ pub front-exact : FrontExact
 unfolding longestInput bits number bytesBits step feed checksum exor onlyIf notAChannel channelOf first headerIn decimalWithin
 front-exact =
     let input = longestInput ++ (0 ∷ []) in
-    let cut : length (lineOf (take (front - 1) input)) ≡ 21 = refl in
+    let cut : length (lineOf (take (front - 1) input)) ≡ longest = refl in
     let whole : length (lineOf input) ≡ 10 = refl in
     (input, λ e. let same = ap length e in omega arith)

@@ -24,7 +24,7 @@ abbrev pub TooLong : Type 0
 TooLong =
     (channel : ℕ) (bytes : List ℕ) → longestFrame < length bytes → lineOf (channel ∷ bytes) ≡ refusedLine (cond (notAChannel channel) 1 3)
 
--- So what lies behind the first 264 bytes changes no line, and a program may leave it unread.
+-- So what lies behind the front changes no line, and a program may leave it unread.
 abbrev pub FrontDecides : Type 0
 FrontDecides = (input : List ℕ) → lineOf (take front input) ≡ lineOf input
 

@@ -3,14 +3,11 @@ use Prim.Native.Nat.{ℕ, _+_, _*_, _-_, _/_, _%_, _^_, _<_, _≤_}
 use mathlib.Core.Path.{_≡_, sym, ap, ap₂, _∙_}
 use mathlib.Core.Bool.{Bool, false, _||_}
 use mathlib.Core.List.{List, [], _∷_, _++_, append-assoc}
-use mathlib.Core.Logic.{_↔_}
 use native.Mathlib.Nat.{mod-eq-of-lt}
 use native.Mathlib.Omega.{arith}
-use borrow.Author.Tests.{ltb-false, le-ltb, ne-eqb}
-use lib.Dec.{ltb}
+use borrow.Author.Tests.{le-ltb, ne-eqb}
 use lib.ListN.{length, take, drop, length-append, length-drop, take-append-drop}
 use lib.Seq.{length-take-le, take-all, take-take, drop-drop}
-use Rattle.numbers.proofs.Truth.{neither}
 use Rattle.division.specs.Bits.{bits, number, bytesBits}
 use Rattle.division.proofs.BitsLaws.{length-bits, bits-number}
 use Rattle.division.proofs.BytesLaws.{length-bytes, bytes-append}
@@ -19,7 +16,7 @@ use Rattle.base_types.specs.declared.channel.Channel.{Channel}
 use Rattle.checksum.specs.Checksums.{headerPolynomial, headerStart, headerBits}
 use Rattle.header.specs.declared.Header.{Header}
 use Rattle.header.specs.Layout.{mostWords, mostPayload, wholeHeader, headerChecksumOf, headerIn}
-use Rattle.base_types.specs.Slot.{highestId, notAnId}
+use Rattle.base_types.specs.Slot.{highestId}
 use Rattle.base_types.specs.Cycle.{highestCycle}
 use Rattle.frame.specs.Layout.{frameChecksumOf, Frame}
 use Rattle.writing.specs.Refusals.{badPayload}

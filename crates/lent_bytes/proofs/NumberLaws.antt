@@ -7,7 +7,7 @@ use native.Mathlib.Nat.{mod-eq-of-lt, pow-le-pow-right, lt-of-lt-of-le, add-mul,
 use native.Mathlib.Omega.{arith}
 use borrow.Author.Tests.{le-leb, lt-leb}
 use lib.Pow.{pow-add}
-use lib.ListN.{length, getD, take, drop, length-drop, drop-of-length-le}
+use lib.ListN.{length, getD, drop, length-drop, drop-of-length-le}
 use lib.Seq.{drop-cons, take-at, drop-at, take-all}
 use Rattle.division.specs.Bits.{bits, number, bytesBits, bytesOf}
 use Rattle.division.proofs.BitsLaws.{length-bits, number-bits}

@@ -2,7 +2,7 @@
 //
 // Entry: `write` on a channel number, fields, payload and lent output. What a header is stands in the crate `header`.
 ghost use mathlib.Core.Path.{_≡_};
-ghost use Prim.Native.Nat.{_+_, _*_, _≤_};
+ghost use Prim.Native.Nat.{_+_, _≤_};
 ghost use lib.ListN.{length};
 ghost use Rattle.header.specs.Layout.{mostPayload};
 ghost use Rattle.writing.specs.Refusals.{badPayload};

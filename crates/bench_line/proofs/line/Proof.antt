@@ -1,14 +1,12 @@
 -- `line` meets its contract: the line is put where there is room for it.
 use borrow.Author.Needs.{needs}
 use mathlib.Core.Path.{_≡_, ap, _∙_}
-use Prim.Native.Nat.{ℕ, _-_, _≤_}
+use Prim.Native.Nat.{ℕ, _-_}
 use mathlib.Core.List.{List}
 use native.Mathlib.Nat.{sub-zero}
-use native.Mathlib.Omega.{arith}
-use lib.ListN.{length, take}
+use lib.ListN.{take}
 use denote.Ref.{now}
-use Rattle.frame.specs.Read.{told}
-use Rattle.bench_line.specs.Line.{lineBy, lineOf, LineSays}
+use Rattle.bench_line.specs.Line.{lineBy, lineOf}
 use Rattle.bench_line.proofs.LineLaws.{line-put, line-within}
 use Rattle.bench_line.proofs.line.Statement.{statement}
 use Rattle.bench_line.proofs.line.Tie as tie

@@ -1,10 +1,9 @@
 -- `payload` meets its contract: the part by what `read` answers.
 use mathlib.Core.Path.{_≡_, _∙_, ap}
 use Prim.Native.Nat.{ℕ}
-use Rattle.refusal.specs.Refusal.{first}
 use Rattle.frame.proofs.ReadLaws.{lies-from-5}
 use denote.Ref.{now, ptr}
-use Rattle.frame.specs.Read.{Told, told, refusals, rule, partRule, behind, partOffset}
+use Rattle.frame.specs.Read.{Told, told, rule, partRule, behind, partOffset}
 use borrow.Author.Needs.{needs}
 use Rattle.frame.proofs.payload.Statement.{statement}
 use Rattle.frame.proofs.payload.Tie as tie

@@ -1,6 +1,6 @@
 -- `amount` meets its contract: a number of 32 bits is one of 64, and so is the negative of it.
 use borrow.Author.Needs.{needs}
-use Prim.Native.Nat.{_<_, _≤_, _^_}
+use Prim.Native.Nat.{_<_, _^_}
 use mathlib.Core.Path.{_≡_, refl, subst}
 use mathlib.Core.Bool.{true, false}
 use native.Mathlib.Omega.{arith}
