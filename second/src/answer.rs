@@ -6,13 +6,14 @@ use crate::clock_numbers::ClockNumbers;
 use crate::closing::{Closing, Controls};
 use crate::frame::{self, Fields};
 use crate::refusal::Refusal;
-use crate::script::{Command, OnChannel, Opening, Write};
+use crate::script::{Command, Encode, OnChannel, Opening, Write};
 use crate::settings::Settings;
 use crate::slot::{self, Event, SlotStatus};
 use crate::status_numbers::StatusNumbers;
+use crate::wire;
 
-/// What every byte of a lent output holds before a write.
-const UNTOUCHED: u8 = 0xA5;
+/// What every byte of a lent output holds before the call.
+pub const UNTOUCHED: u8 = 0xA5;
 
 /// The two states that are held from command to command, all zeros at the start.
 #[derive(Clone, Debug, Default)]
@@ -27,6 +28,7 @@ pub enum Answer {
     Read(Result<Fields, Refusal>, Vec<u8>),
     Write(Result<usize, Refusal>, Vec<u8>),
     Bench(Result<Fields, Refusal>),
+    Encode(Result<usize, Refusal>, Vec<u8>),
     /// With the number of the first field out of range, or 0.
     Opened(Result<(), Refusal>, usize),
     Event(Result<(), Refusal>),
@@ -48,6 +50,7 @@ impl Answer {
             Command::Read(given) => answer_to_read(given),
             Command::Write(write) => answer_to_write(write),
             Command::Bench(input) => Answer::Bench(bench::read(input)),
+            Command::Encode(encode) => answer_to_encode(encode),
             Command::OpenSlot(opening) => answer_to_opening(opening, &mut held.status),
             Command::Arrived(bytes) => answer_to_event(&Event::Arrived(bytes), &mut held.status),
             Command::Boundary => answer_to_event(&Event::Boundary, &mut held.status),
@@ -66,7 +69,7 @@ impl Answer {
         match self {
             Answer::Checksum(answer) => answer.err(),
             Answer::Read(answer, _) | Answer::Bench(answer) => answer.err(),
-            Answer::Write(answer, _) => answer.err(),
+            Answer::Write(answer, _) | Answer::Encode(answer, _) => answer.err(),
             Answer::Opened(answer, _) | Answer::Event(answer) => answer.err(),
             Answer::Loaded(answer, _) | Answer::CycleOpened(answer) => answer.err(),
             Answer::Measured(answer) => answer.err(),
@@ -89,6 +92,7 @@ impl Answer {
             Answer::Read(Err(_), payload) => format!("read {number} {}", hex(payload)),
             Answer::Write(answer, output) => format!("write {number} {} {}", answer.unwrap_or(0), hex(output)),
             Answer::Bench(answer) => bench::line(answer),
+            Answer::Encode(answer, output) => format!("encode {number} {} {}", answer.unwrap_or(0), hex(output)),
             Answer::Opened(_, field) => format!("slot {number} {field}"),
             Answer::Event(_) => format!("event {number}"),
             Answer::StatusPut => "status put".to_string(),
@@ -109,10 +113,20 @@ fn answer_to_read(given: &OnChannel) -> Answer {
     Answer::Read(answer, payload)
 }
 
+fn lent(room: usize) -> Vec<u8> {
+    vec![UNTOUCHED; room]
+}
+
 fn answer_to_write(write: &Write) -> Answer {
-    let mut output = vec![UNTOUCHED; write.room];
+    let mut output = lent(write.room);
     let answer = frame::write(write.channel, &write.given(), &write.payload, &mut output);
     Answer::Write(answer, output)
+}
+
+fn answer_to_encode(encode: &Encode) -> Answer {
+    let mut output = lent(encode.room);
+    let answer = wire::encode(encode.channel, encode.start, &encode.frame, &mut output);
+    Answer::Encode(answer, output)
 }
 
 fn answer_to_opening(opening: &Opening, held: &mut SlotStatus) -> Answer {

@@ -5,10 +5,12 @@ mod borders;
 mod checksums;
 pub mod clock;
 mod damage;
+mod encoding;
 mod histories;
 mod listed;
 mod listed_frames;
 mod listed_slots;
+mod listed_streams;
 mod misses;
 mod openings;
 mod reading;
@@ -48,6 +50,8 @@ pub fn all() -> Plan {
     writing::add(&mut plan, &mut random);
     round_trips::add(&mut plan, &mut random);
     bench::add(&mut plan, &mut random);
+    listed_streams::add(&mut plan);
+    encoding::add(&mut plan, &mut random);
     add_mixture(&mut plan, &mut random);
     // Behind everything about frames alone, whose commands keep their places; the first of these finds no slot opened.
     histories::add(&mut plan, &mut random);

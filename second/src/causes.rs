@@ -7,6 +7,7 @@ use crate::frame;
 use crate::refusal::{holding, Refusal};
 use crate::script::Command;
 use crate::slot;
+use crate::wire;
 
 impl Command {
     /// In the order of the entry, on the states that are held.
@@ -16,6 +17,7 @@ impl Command {
             Command::Read(given) => frame::read_causes(given.channel, &given.bytes),
             Command::Write(write) => frame::write_causes(write.channel, &write.given(), &write.payload, write.room),
             Command::Bench(input) => bench::causes(input),
+            Command::Encode(encode) => wire::encode_causes(encode.channel, encode.start, &encode.frame, encode.room),
             Command::OpenSlot(opening) => {
                 slot::opening_causes(&opening.settings, opening.channel, opening.slot, opening.cycle)
             }

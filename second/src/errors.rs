@@ -7,7 +7,7 @@ mod sizes;
 use crate::channel::Channel;
 use crate::listed_frames::SHORT;
 use crate::replay::{self, Outcome, Replay};
-use crate::script::{Broken, Cause, Command, Opening, Write, LIMIT};
+use crate::script::{Broken, Cause, Command, Encode, Opening, Write, LIMIT};
 use crate::settings::{Settings, FIELDS};
 use crate::status_numbers::{HeaderNumbers, StatusNumbers};
 
@@ -44,13 +44,18 @@ fn frame() -> Vec<u8> {
     SHORT.bytes(Channel::A)
 }
 
+/// An encoding of this frame that is taken, with a byte to spare.
+fn encode() -> Encode {
+    Encode { channel: 0, start: 1, frame: frame(), room: 12 }
+}
+
 /// In range, and slot 1 is static with them.
 const SETTINGS: Settings = Settings { fields: [1, 2, 3, 4, 5, 6, 7, 8, 9, 0, 11], sends_sync: true };
 
 const OPENING: Opening = Opening { settings: SETTINGS, channel: 0, slot: 1, cycle: 0 };
 
 /// Bytes that begin no command: the letters in lower case, the capitals that have no command, and some others.
-pub const UNKNOWN_LETTERS: &[u8] = b"frwpsabxtlomckdEGHIJNQUVYZ\x00\n ?\x80\xFF";
+pub const UNKNOWN_LETTERS: &[u8] = b"frwpesabxtlomckdGHIJNQUVYZ\x00\n ?\x80\xFF";
 
 /// A status in which the frame above is kept.
 const STATUS: StatusNumbers = StatusNumbers {
@@ -112,6 +117,7 @@ fn good_ones() -> Vec<(Vec<u8>, String)> {
         (Command::read(0, &frame()), line("read 0 0 0 1 0 0 1 0 1695 0 -\n")),
         (Command::Write(write), line("write 0 8 200101a7c0d05eeaa5\n")),
         (Command::bench(0, &frame()), line("accepted 1 0 0\n")),
+        (Command::Encode(encode()), line("encode 0 84 62080601a9ec0b425eba90a5\n")),
         (Command::OwnSending, line("event 23\n")),
         (Command::OpenSlot(OPENING), line("slot 0 0\n")),
         (Command::Boundary, line("event 0\n")),
@@ -161,6 +167,7 @@ fn ends_inside() -> Vec<Small> {
         Command::read(0, &frame()),
         Command::Write(write),
         Command::bench(0, &frame()),
+        Command::Encode(encode()),
         Command::OpenSlot(OPENING),
         Command::Arrived(frame()),
         Command::PutStatus(STATUS),
@@ -174,6 +181,8 @@ fn ends_inside() -> Vec<Small> {
     // A foreign channel is no answer yet while the command isn't whole.
     all.push(broken(Cause::EndInside, b"R\xFF\x08\x00\x20"));
     all.push(broken(Cause::EndInside, b"P\x08\x00\xFF\x20"));
+    // The same of a start length.
+    all.push(broken(Cause::EndInside, &[b"E\x00\x00\x08\x00", &frame()[..], b"\x0C"].concat()));
     all
 }
 
@@ -232,7 +241,7 @@ fn no_errors() -> Vec<Small> {
 
 fn after_good_ones() -> Vec<Small> {
     let [low, high] = (LIMIT as u16 + 1).to_le_bytes();
-    let broken: [(Cause, &[u8]); 18] = [
+    let broken: [(Cause, &[u8]); 21] = [
         (Cause::UnknownLetter, b"?"),
         (Cause::EndInside, b"F"),
         (Cause::EndInside, b"R\x00\x08"),
@@ -243,6 +252,9 @@ fn after_good_ones() -> Vec<Small> {
         (Cause::SizeAbove, &[b'W', 0, 4, 1, 0, 0, low, high]),
         (Cause::RoomAbove, &[b'W', 0, 4, 1, 0, 0, 0, 0, low, high]),
         (Cause::SizeAbove, &[b'P', low, high]),
+        (Cause::EndInside, b"E\x00\x01\x02\x00\x20\x01\x00"),
+        (Cause::SizeAbove, &[b'E', 0, 1, low, high]),
+        (Cause::RoomAbove, &[b'E', 0, 1, 0, 0, low, high]),
         (Cause::EndInside, b"S\x01\x00\x00\x00"),
         (Cause::SizeAbove, &[b'A', low, high]),
         (Cause::EndInside, b"T\x01\x00\x00\x00"),

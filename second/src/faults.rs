@@ -6,8 +6,9 @@ use crate::frame::{Indicators, HIGHEST_CYCLE, HIGHEST_ID, LARGEST_PAYLOAD, MOST_
 use crate::random::Random;
 use crate::refusal::Refusal;
 use crate::scene::Scene;
-use crate::script::{Command, OnChannel, Opening, Write, LIMIT};
+use crate::script::{Command, Encode, OnChannel, Opening, Write, LIMIT};
 use crate::settings::{self, FIELDS};
+use crate::wire::{self, START_LENGTHS};
 
 /// Every selection from an order, the empty one first; each keeps the order.
 pub fn selections<T: Copy>(order: &[T]) -> Vec<Vec<T>> {
@@ -132,7 +133,7 @@ pub fn faulty_write(random: &mut Random, faults: &[Refusal]) -> Command {
         flags: faulty_flags(fair.flags, faults),
         id: if faults.contains(&Refusal::IdGiven) { wrong_id(random) } else { fair.id },
         cycle: if faults.contains(&Refusal::Cycle) { wrong_cycle(random) } else { fair.cycle },
-        room: room_for(random, SMALLEST_FRAME + payload.len(), faults),
+        room: room_for(random, SMALLEST_FRAME + payload.len(), faults.contains(&Refusal::Output)),
         payload,
     };
     Command::Write(write)
@@ -193,22 +194,52 @@ pub fn wrong_cycle(random: &mut Random) -> u8 {
     random.between(usize::from(HIGHEST_CYCLE) + 1, 255) as u8
 }
 
-fn room_for(random: &mut Random, frame: usize, faults: &[Refusal]) -> usize {
-    if faults.contains(&Refusal::Output) {
-        return short_room(random, frame).min(LIMIT);
+/// A room for so many bytes, or one that is too short for them.
+fn room_for(random: &mut Random, size: usize, too_short: bool) -> usize {
+    if too_short {
+        return short_room(random, size).min(LIMIT);
     }
     if random.coin() {
-        return frame.min(LIMIT);
+        return size.min(LIMIT);
     }
-    (frame + random.below(9)).min(LIMIT)
+    (size + random.below(9)).min(LIMIT)
 }
 
-fn short_room(random: &mut Random, frame: usize) -> usize {
+fn short_room(random: &mut Random, size: usize) -> usize {
     match random.below(4) {
         0 => 0,
-        1 => random.below(frame),
-        _ => frame - 1,
+        1 => random.below(size),
+        _ => size - 1,
     }
+}
+
+/// An encoding in which each of the named refusals has a cause.
+pub fn faulty_encode(random: &mut Random, faults: &[Refusal]) -> Command {
+    let given = faulty_frame(random, faults);
+    encode_of(random, given, faults)
+}
+
+/// The same of any bytes, which have causes of their own or none.
+pub fn encode_of(random: &mut Random, given: OnChannel, faults: &[Refusal]) -> Command {
+    let wrong = faults.contains(&Refusal::StartLength);
+    let start = if wrong { wrong_start(random) } else { fair_start(random) };
+    let size = wire::packed_size(start, given.bytes.len());
+    let room = room_for(random, size, faults.contains(&Refusal::PackedOutput));
+    Command::Encode(Encode { room, ..Encode::exact(given, start) })
+}
+
+pub fn fair_start(random: &mut Random) -> u8 {
+    random.between((*START_LENGTHS.start()).into(), (*START_LENGTHS.end()).into()) as u8
+}
+
+/// Start lengths out of their range: those beside it, and the highest of all. Written out, so that a wrong range shows.
+pub const WRONG_STARTS: [u8; 3] = [0, 16, 255];
+
+fn wrong_start(random: &mut Random) -> u8 {
+    if random.coin() {
+        return random.pick(&WRONG_STARTS);
+    }
+    random.between(usize::from(*START_LENGTHS.end()) + 1, 255) as u8
 }
 
 /// An opening of a slot in which each of the named refusals has a cause.

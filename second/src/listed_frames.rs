@@ -1,7 +1,9 @@
 //! The frames that are known whole on both channels, byte by byte as they were written down.
 
 use crate::channel::Channel;
-use crate::frame::{HIGHEST_CYCLE, HIGHEST_ID, LARGEST_PAYLOAD};
+use crate::draft::Draft;
+use crate::frame::{Indicators, HIGHEST_CYCLE, HIGHEST_ID, LARGEST_PAYLOAD};
+use crate::script::OnChannel;
 
 pub struct ListedFrame {
     pub header: [u8; 5],
@@ -70,4 +72,22 @@ impl ListedFrame {
         bytes.resize(size, 0);
         bytes
     }
+}
+
+/// The shortest frame, and what is made of it for each refusal of a read, 1 to 8 in this order.
+pub fn refused(channel: Channel) -> [OnChannel; 8] {
+    let good = Draft::plain(channel, SHORT.flags, SHORT.id, 0, SHORT.cycle);
+    let startup = Indicators { startup: true, ..good.indicators };
+    let (own, foreign) = (channel.number(), 2);
+    let cases = [
+        (foreign, SHORT.bytes(channel)),
+        (own, SHORT.sized(channel, 7)),
+        (own, SHORT.sized(channel, 9)),
+        (own, Draft { header_checksum_change: 1, ..good.clone() }.bytes()),
+        (own, SHORT.sized(channel, 10)),
+        (own, Draft { id: 0, ..good.clone() }.bytes()),
+        (own, Draft { indicators: startup, ..good.clone() }.bytes()),
+        (own, Draft { frame_checksum_change: 1, ..good }.bytes()),
+    ];
+    cases.map(|(channel, bytes)| OnChannel { channel, bytes })
 }

@@ -23,6 +23,7 @@ mod faults;
 mod frame;
 mod history;
 mod listed_frames;
+mod listed_streams;
 mod marks;
 mod mixture;
 mod plan;
@@ -39,6 +40,7 @@ mod slot_mixture;
 mod status_numbers;
 mod sync_list;
 mod vectors;
+mod wire;
 
 use std::error::Error;
 use std::io::{self, BufWriter, Read, Write};

@@ -6,10 +6,10 @@ use crate::bits;
 use crate::channel::Channel;
 use crate::clock_mixture;
 use crate::draft::{fair_words, foreign_channel, Draft};
-use crate::faults::{bench_of, faulty_bench, faulty_read, faulty_write, some_faults};
+use crate::faults::{bench_of, encode_of, faulty_bench, faulty_encode, faulty_read, faulty_write, some_faults};
 use crate::frame::{Indicators, MOST_WORDS};
 use crate::random::Random;
-use crate::refusal::{READ_ORDER, WRITE_ORDER};
+use crate::refusal::{Refusal, ENCODE_ORDER, READ_ORDER, WRITE_ORDER};
 use crate::script::{Command, OnChannel, LIMIT};
 use crate::slot_mixture;
 
@@ -57,14 +57,16 @@ pub fn clock_stretch(random: &mut Random) -> Vec<Command> {
 }
 
 pub fn frame_command(random: &mut Random) -> Command {
-    match random.below(26) {
+    match random.below(34) {
         0 | 1 => any_checksum(random),
         2..=10 => Command::Read(any_frame(random)),
         11..=13 => read_with_some_faults(random),
         14..=19 => write_with_some_faults(random),
         20..=23 => bench_of(&any_frame(random)),
         24 => bench_with_some_faults(random),
-        _ => any_bench_input(random),
+        25 => any_bench_input(random),
+        26 | 27 => encode_with_some_faults(random),
+        _ => any_encode(random),
     }
 }
 
@@ -177,20 +179,41 @@ fn write_with_some_faults(random: &mut Random) -> Command {
     faulty_write(random, &faults)
 }
 
+fn encode_with_some_faults(random: &mut Random) -> Command {
+    let faults = some_faults(random, &ENCODE_ORDER);
+    faulty_encode(random, &faults)
+}
+
+/// A good frame as a rule, so that what is tested behind it counts.
+fn any_encode(random: &mut Random) -> Command {
+    let given = if random.one_in(4) { any_frame(random) } else { true_frame(random) };
+    match random.below(9) {
+        0 => encode_of(random, given, &[Refusal::StartLength]),
+        1 => encode_of(random, given, &[Refusal::StartLength, Refusal::PackedOutput]),
+        2 | 3 => encode_of(random, given, &[Refusal::PackedOutput]),
+        _ => encode_of(random, given, &[]),
+    }
+}
+
 #[cfg(test)]
 mod tests {
     use super::*;
     use crate::replay::{Outcome, Replay};
+    use crate::wire::{self, START_LENGTHS};
+
+    fn some_outcomes(count: usize) -> Vec<Outcome> {
+        let mut random = Random::from_seed(31);
+        let mut script = Vec::new();
+        for _ in 0..count {
+            frame_command(&mut random).append_to(&mut script);
+        }
+        Replay::of(&script).collect()
+    }
 
     /// Every answer of the bench program turns up, and frames are accepted on both channels.
     #[test]
     fn bench_lines_of_every_sort() {
-        let mut random = Random::from_seed(31);
-        let mut script = Vec::new();
-        for _ in 0..6_000 {
-            frame_command(&mut random).append_to(&mut script);
-        }
-        let outcomes: Vec<_> = Replay::of(&script).collect();
+        let outcomes = some_outcomes(6_000);
         let lines: Vec<String> = outcomes.iter().map(|outcome| outcome.line()).collect();
         let count = |start: &str| lines.iter().filter(|line| line.starts_with(start)).count();
         for number in 1..=8 {
@@ -208,5 +231,28 @@ mod tests {
             return false;
         };
         input.first() == Some(&channel.number()) && answer.refusal().is_none()
+    }
+
+    /// Every answer to an encoding turns up, one in four is accepted, and each start length meets both sides of its room.
+    #[test]
+    fn encodings_of_every_sort() {
+        let outcomes = some_outcomes(20_000);
+        let encodings: Vec<(u8, u8, i64)> = outcomes.iter().filter_map(start_number_and_spare_room).collect();
+        let count = |number| encodings.iter().filter(|(_, other, _)| *other == number).count();
+        for refusal in ENCODE_ORDER {
+            assert!(count(refusal.number()) > 8, "{refusal:?}");
+        }
+        assert!(4 * count(0) > encodings.len());
+        for start in START_LENGTHS {
+            assert!(encodings.contains(&(start, 0, 0)) && encodings.contains(&(start, 25, -1)), "{start}");
+        }
+    }
+
+    fn start_number_and_spare_room(outcome: &Outcome) -> Option<(u8, u8, i64)> {
+        let Outcome::Answered(Command::Encode(encode), answer) = outcome else {
+            return None;
+        };
+        let packed = wire::packed_size(encode.start, encode.frame.len());
+        Some((encode.start, answer.number(), encode.room as i64 - packed as i64))
     }
 }

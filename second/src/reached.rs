@@ -16,6 +16,7 @@ mod measuring;
 mod slots;
 mod soundness;
 mod stays;
+mod streams;
 mod unlooked;
 
 use std::collections::BTreeMap;
@@ -34,7 +35,7 @@ use stays::{Origin, Subject};
 #[derive(Default)]
 pub struct Reached {
     counts: BTreeMap<String, usize>,
-    /// What was reached though 01 leaves no way to it.
+    /// What was reached though 01 and 02 leave no way to it.
     pub impossible: Vec<String>,
     /// Letters of entries and numbers of answers, with how often they were given.
     answers: BTreeMap<(char, u8), usize>,
@@ -73,7 +74,7 @@ impl Reached {
 
     /// How often each entry gave each number, one line per entry, and how the small scripts ended.
     pub fn summary(&self) -> String {
-        let mut lines: Vec<String> = "FRWPSABXTLOMCKD".chars().map(|letter| self.summary_of(letter)).collect();
+        let mut lines: Vec<String> = "FRWPESABXTLOMCKD".chars().map(|letter| self.summary_of(letter)).collect();
         lines.push(self.summary_of_ends());
         lines.join("\n")
     }
@@ -116,6 +117,7 @@ impl Reached {
             Command::Read(given) => self.add_read(given, answer),
             Command::Write(write) => self.add_write(write, answer),
             Command::Bench(input) => self.add_bench(input, answer),
+            Command::Encode(encode) => self.add_encode(encode, answer),
             Command::OpenSlot(_) => self.add_opening(answer),
             Command::Arrived(_) | Command::Boundary | Command::OwnSending => self.add_event(command, answer),
             Command::PutStatus(numbers) => self.add_put_status(numbers),
@@ -143,6 +145,7 @@ fn required() -> Vec<String> {
     all.extend(frames::required());
     all.extend(damage::required());
     all.extend(bench::required());
+    all.extend(streams::required());
     all.extend(slots::required());
     all.extend(soundness::required());
     all.extend(unlooked::required());

@@ -1,4 +1,4 @@
-//! The refusals of 01 "Refusal numbers".
+//! The refusals of 01 "Refusal numbers", and those that 02 adds.
 
 #[derive(Clone, Copy, Debug, PartialEq, Eq, PartialOrd, Ord)]
 pub enum Refusal {
@@ -25,6 +25,8 @@ pub enum Refusal {
     Control = 21,
     OtherCycle = 22,
     NotSound = 23,
+    StartLength = 24,
+    PackedOutput = 25,
 }
 
 /// 01 "Refusal numbers", order of a read.
@@ -49,6 +51,12 @@ pub const WRITE_ORDER: [Refusal; 7] = [
     Refusal::ReservedToWrite,
     Refusal::Output,
 ];
+
+/// 02 C-11, order of an encoding: those of a read, then two of its own.
+pub const ENCODE_ORDER: [Refusal; 10] = {
+    let [a, b, c, d, e, f, g, h] = READ_ORDER;
+    [a, b, c, d, e, f, g, h, Refusal::StartLength, Refusal::PackedOutput]
+};
 
 /// 01 "Refusal numbers", order of opening a slot.
 pub const OPEN_SLOT_ORDER: [Refusal; 4] = [Refusal::Setting, Refusal::Channel, Refusal::IdGiven, Refusal::Cycle];
@@ -94,6 +102,7 @@ mod tests {
     fn orders_stand_as_in_the_paper() {
         assert_eq!(READ_ORDER.map(Refusal::number), [1, 2, 3, 4, 5, 6, 7, 8]);
         assert_eq!(WRITE_ORDER.map(Refusal::number), [1, 9, 10, 11, 7, 12, 13]);
+        assert_eq!(ENCODE_ORDER.map(Refusal::number), [1, 2, 3, 4, 5, 6, 7, 8, 24, 25]);
         assert_eq!(OPEN_SLOT_ORDER.map(Refusal::number), [17, 1, 9, 11]);
         assert_eq!(OPEN_CYCLE_ORDER.map(Refusal::number), [23, 11, 19]);
         assert_eq!(MEASURE_ORDER.map(Refusal::number), [23, 18, 14, 20, 22, 16, 15]);

@@ -80,7 +80,14 @@ mod tests {
             P\x09\x00\x01\x20\x01\x01\xA7\xC0\x3B\xD0\x8F\
             P\x02\x00\x00\x20\
             P\x00\x00\
-            F\x02\x00\x00";
+            F\x02\x00\x00\
+            E\x00\x01\x08\x00\x20\x01\x01\xA7\xC0\xD0\x5E\xEA\x0C\x00\
+            E\x00\x03\x08\x00\x20\x01\x01\xA7\xC0\xD0\x5E\xEA\x0B\x00\
+            E\x00\x0F\x08\x00\x20\x01\x01\xA7\xC0\xD0\x5E\xEA\x0D\x00\
+            E\x00\x0F\x08\x00\x20\x01\x01\xA7\xC0\xD0\x5E\xEA\x02\x00\
+            E\x00\x10\x08\x00\x20\x01\x01\xA7\xC0\xD0\x5E\xEA\x01\x00\
+            E\x01\x00\x08\x00\x20\x01\x01\xA7\xC0\xD0\x5E\xEA\x00\x00\
+            E\x02\xFF\x00\x00\x00\x00";
         let lines = [
             "checksum 0 7961021",
             "read 0 0 0 1 0 0 1 0 1695 0 -",
@@ -92,6 +99,13 @@ mod tests {
             "refused 2",
             "refused 1",
             "checksum 1 0",
+            "encode 0 84 62080601a9ec0b425eba90a5",
+            "encode 0 86 188201806a7b02d097aea4",
+            "encode 0 98 000188201806a7b02d097aea40",
+            "encode 25 0 a5a5",
+            "encode 24 0 a5",
+            "encode 8 0 -",
+            "encode 1 0 -",
         ];
         assert_eq!(text(script), lines.join("\n") + "\n");
     }
@@ -180,5 +194,6 @@ mod tests {
         assert_eq!(text(b"F\x02\x00\x00?F\x02\x00\x00"), "checksum 1 0\nscript error at 1\n");
         assert_eq!(text(b"R\x00\x59\x02"), "script error at 0\n");
         assert_eq!(text(b"W\x00\x04\x01\x00\x00\x00\x00\x59\x02"), "script error at 0\n");
+        assert_eq!(text(b"E\x00\x01\x00\x00\x59\x02"), "script error at 0\n");
     }
 }

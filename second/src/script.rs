@@ -8,6 +8,7 @@ use crate::closing::Controls;
 use crate::frame::{self, Fields, Indicators, ToWrite};
 use crate::settings::Settings;
 use crate::status_numbers::StatusNumbers;
+use crate::wire;
 
 pub use layout::Rest;
 
@@ -66,6 +67,23 @@ impl Write {
     }
 }
 
+/// A frame on a channel given by its number, to be encoded with a start length that may be any.
+#[derive(Clone, Debug, Default, PartialEq, Eq)]
+pub struct Encode {
+    pub channel: u8,
+    pub start: u8,
+    pub frame: Vec<u8>,
+    pub room: usize,
+}
+
+impl Encode {
+    /// In a room for just its packed bits.
+    pub fn exact(given: OnChannel, start: u8) -> Encode {
+        let room = wire::packed_size(start, given.bytes.len());
+        Encode { channel: given.channel, start, frame: given.bytes, room }
+    }
+}
+
 /// What a slot is opened with; unlike that of a status, the channel may be any number.
 #[derive(Clone, Copy, Debug, Default, PartialEq, Eq)]
 pub struct Opening {
@@ -82,6 +100,7 @@ pub enum Command {
     Write(Write),
     /// The whole input of the bench program.
     Bench(Vec<u8>),
+    Encode(Encode),
     OpenSlot(Opening),
     Arrived(Vec<u8>),
     Boundary,
@@ -120,6 +139,7 @@ impl Command {
             'R' => Command::Read(OnChannel::default()),
             'W' => Command::Write(Write::default()),
             'P' => Command::Bench(Vec::new()),
+            'E' => Command::Encode(Encode::default()),
             'S' => Command::OpenSlot(Opening::default()),
             'A' => Command::Arrived(Vec::new()),
             'B' => Command::Boundary,
@@ -142,6 +162,7 @@ impl Command {
             Command::Read(_) => 'R',
             Command::Write(_) => 'W',
             Command::Bench(_) => 'P',
+            Command::Encode(_) => 'E',
             Command::OpenSlot(_) => 'S',
             Command::Arrived(_) => 'A',
             Command::Boundary => 'B',
@@ -173,6 +194,12 @@ mod tests {
         let mut built = Vec::new();
         Command::Write(write).append_to(&mut built);
         assert_eq!(built, script);
+    }
+
+    #[test]
+    fn encode_command_by_hand() {
+        let encode = Encode { channel: 1, start: 0x1F, frame: vec![0xEE, 0xFF, 0x77], room: LIMIT };
+        assert_both_ways(b"E\x01\x1F\x03\x00\xEE\xFF\x77\x58\x02", &Command::Encode(encode));
     }
 
     #[test]

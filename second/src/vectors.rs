@@ -38,7 +38,7 @@ pub fn build() -> Result<Vectors, String> {
         return Err(format!("not reached: {missing:?}"));
     }
     if !reached.impossible.is_empty() {
-        return Err(format!("reached, though 01 leaves no way there: {:?}", reached.impossible));
+        return Err(format!("reached, though 01 and 02 leave no way there: {:?}", reached.impossible));
     }
     let text = replay::text(&script);
     let summary = format!("{} commands\n{}", outcomes.len(), reached.summary());
@@ -70,6 +70,6 @@ mod tests {
         let vectors = build().unwrap();
         assert!(vectors.script.len() < 2_800_000);
         assert!(Replay::of(&vectors.script).count() < 70_000);
-        assert!(vectors.text.len() < 3_000_000);
+        assert!(vectors.text.len() < 3_400_000);
     }
 }

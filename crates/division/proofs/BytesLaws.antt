@@ -7,7 +7,7 @@ use native.Mathlib.Nat.{zero-add, suc-add, add-comm, add-mul, mul-assoc, lt-of-l
 use native.Mathlib.Omega.{arith}
 use lib.Pow.{shr-shr, pow-add}
 use lib.ListN.{length, take, drop, length-append, length-take, length-drop, take-append-drop}
-use lib.Seq.{length-take-le, take-at, drop-at}
+use lib.Seq.{length-take-le, take-at, drop-at, take-append-le, drop-append-le}
 use Rattle.division.specs.Bits.{odd, bit, bits, number, bytesBits, bytesOf, AreBytes}
 use Rattle.division.proofs.BitsLaws.{length-bits, one-width, number-bits, number-lt, bits-number, bits-inj}
 
@@ -45,6 +45,13 @@ append-apart s t u v n e = (
   sym (take-at s t (length s) refl) ∙ ap (take (length s)) e ∙ take-at u v (length s) (sym n),
   sym (drop-at s t (length s) refl) ∙ ap (drop (length s)) e ∙ drop-at u v (length s) (sym n),
 )
+
+-- of a number only the low bits count, also where more of them are kept
+pub bits-low : (j w n : ℕ) → bits w (n % 2 ^ (j + w)) ≡ bits w n
+bits-low j w n =
+    let k = n % 2 ^ (j + w) in
+    append-apart (bits j (k / 2 ^ w)) (bits w k) (bits j (n / 2 ^ w)) (bits w n) (one-width j (k / 2 ^ w) (n / 2 ^ w))
+    (sym (bits-split j w k) ∙ bits-mod (j + w) n ∙ bits-split j w n) .1
 
 -- ---- bytes
 
@@ -126,3 +133,11 @@ bits-bytes-of (suc n) x e =
     ap₂ _++_ (bits-number 8 (take 8 x) (length-take-le 8 x (omega arith)))
     (bits-bytes-of n (drop 8 x) (length-drop 8 x ∙ omega arith))
     ∙ take-append-drop 8 x
+
+-- of bits only the first so many count
+pub bytes-of-front : (n : ℕ) (x y : List Bool) → 8 * n ≤ length x → bytesOf n (x ++ y) ≡ bytesOf n x
+unfolding bytesOf
+bytes-of-front zero x y h = refl
+bytes-of-front (suc n) x y h =
+    ap₂ (λ (a b : List Bool). number a ∷ bytesOf n b) (take-append-le 8 x y (omega arith)) (drop-append-le 8 x y (omega arith))
+    ∙ ap (λ (l : List ℕ). number (take 8 x) ∷ l) (bytes-of-front n (drop 8 x) y (omega (arith, length-drop 8 x)))

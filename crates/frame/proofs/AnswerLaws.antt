@@ -1,7 +1,7 @@
 -- The reader's answers, by their cases.
 use mathlib.Core.Path.{_≡_, refl}
 use mathlib.Core.List.{List, [], _∷_}
-use Prim.Native.Nat.{ℕ}
+use Prim.Native.Nat.{ℕ, _≤_}
 use native.Mathlib.Omega.{arith}
 use denote.Enum.Declared.{tagOf}
 use types.Run.{OneOf, miss}
@@ -31,3 +31,15 @@ not-accepted r k = is-refusal r k .0
 
 pub no-header : (r : Reading) → OneOf refusals (tagOf the-type r) → noHeader ≡ told r .header
 no-header r k = is-refusal r k .1
+
+-- none has a number above 8
+pub number-at-most : (r : Reading) → told r .number ≤ 8
+number-at-most (reading.Accepted h) = omega arith
+number-at-most reading.NotAChannel = omega arith
+number-at-most reading.TooShort = omega arith
+number-at-most reading.BadSize = omega arith
+number-at-most reading.HeaderChecksumDiffers = omega arith
+number-at-most reading.WordsNotSize = omega arith
+number-at-most reading.IdZero = omega arith
+number-at-most reading.StartupWithoutSync = omega arith
+number-at-most reading.FrameChecksumDiffers = omega arith

@@ -17,14 +17,14 @@ use Rattle.frame_claims.specs.Answers.{ReadOne, ReadOnOne, PayloadOne, W
 
 -- ---- one answer
 
-readingBy : read.Told → Reading
+pub readingBy : read.Told → Reading
 readingBy t =
     getD
     (reading.Accepted (t .header) ∷ reading.NotAChannel ∷ reading.TooShort ∷ reading.BadSize ∷ reading.HeaderChecksumDiffers ∷ reading.WordsNotSize
     ∷ reading.IdZero ∷ reading.StartupWithoutSync ∷ [])
     (t .number) reading.FrameChecksumDiffers
 
-reading-by : (r : Reading) → readingBy (read.told r) ≡ r
+pub reading-by : (r : Reading) → readingBy (read.told r) ≡ r
 unfolding readingBy
 reading-by (reading.Accepted h) = refl
 reading-by reading.NotAChannel = refl

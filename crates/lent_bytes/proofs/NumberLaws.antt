@@ -2,7 +2,7 @@
 use Prim.Native.Nat.{ℕ, suc, _+_, _*_, _-_, _/_, _%_, _^_, _<_, _≤_}
 use mathlib.Core.Path.{_≡_, sym, ap, ap₂, _∙_}
 use mathlib.Core.Bool.{Bool}
-use mathlib.Core.List.{List, _∷_, _++_}
+use mathlib.Core.List.{List, [], _∷_, _++_, append-assoc, append-nil}
 use native.Mathlib.Nat.{mod-eq-of-lt, pow-le-pow-right, lt-of-lt-of-le, add-mul, mul-assoc}
 use native.Mathlib.Omega.{arith}
 use borrow.Author.Tests.{le-leb, lt-leb}
@@ -65,15 +65,22 @@ number-in-all bytes h = ap (λ (l : List ℕ). number (bytesBits l)) (take-all m
 -- ---- written
 
 -- the first of so many bytes, and the rest
-pub bytes-of-suc : (k n : ℕ) → bytesOf (suc k) (bits (8 * suc k) n) ≡ n / 2 ^ (8 * k) % 256 ∷ bytesOf k (bits (8 * k) n)
+pub first-byte : (k j n : ℕ) (rest : List Bool) → bytesOf (suc k) (bits (8 + j) n ++ rest) ≡ n / 2 ^ j % 256 ∷ bytesOf k (bits j n ++ rest)
 unfolding bytesOf
-bytes-of-suc k n =
-    let first = bits 8 (n / 2 ^ (8 * k)) in
-    let rest = bits (8 * k) n in
-    let e : bits (8 * suc k) n ≡ first ++ rest = ap (λ (w : ℕ). bits w n) (omega arith) ∙ bits-split 8 (8 * k) n in
+first-byte k j n rest =
+    let front = bits 8 (n / 2 ^ j) in
+    let behind = bits j n ++ rest in
+    let e : bits (8 + j) n ++ rest ≡ front ++ behind = ap (λ (x : List Bool). x ++ rest) (bits-split 8 j n) ∙ append-assoc front (bits j n) rest in
     ap (bytesOf (suc k)) e
-    ∙ ap₂ (λ (x y : List Bool). number x ∷ bytesOf k y) (take-at first rest 8 (length-bits 8 _)) (drop-at first rest 8 (length-bits 8 _))
-    ∙ ap (λ (byte : ℕ). byte ∷ bytesOf k rest) (number-bits 8 (n / 2 ^ (8 * k)))
+    ∙ ap₂ (λ (x y : List Bool). number x ∷ bytesOf k y) (take-at front behind 8 (length-bits 8 _)) (drop-at front behind 8 (length-bits 8 _))
+    ∙ ap (λ (byte : ℕ). byte ∷ bytesOf k behind) (number-bits 8 (n / 2 ^ j))
+
+pub bytes-of-suc : (k n : ℕ) → bytesOf (suc k) (bits (8 * suc k) n) ≡ n / 2 ^ (8 * k) % 256 ∷ bytesOf k (bits (8 * k) n)
+bytes-of-suc k n =
+    let width : 8 * suc k ≡ 8 + 8 * k = omega arith in
+    ap (bytesOf (suc k)) (ap (λ (w : ℕ). bits w n) width ∙ sym (append-nil (bits (8 + 8 * k) n)))
+    ∙ first-byte k (8 * k) n []
+    ∙ ap (λ (x : List Bool). n / 2 ^ (8 * k) % 256 ∷ bytesOf k x) (append-nil (bits (8 * k) n))
 
 -- where there is room
 pub number-put : (n count : ℕ) (output : List ℕ) → count ≤ mostBytes → count ≤ length output

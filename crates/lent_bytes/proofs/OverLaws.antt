@@ -60,3 +60,8 @@ lent-end a l bytes end e =
     let none : postOf a (length l - a) l ≡ [] = drop-of-length-le (drop a l) {i = length l - a} (omega (arith, length-drop a l)) in
     ap₂ (λ (x y : List ℕ). take a l ++ (x ++ y)) (e ∙ ap (over bytes) all) none
     ∙ ap (λ (x : List ℕ). take a l ++ x) (append-nil (over bytes (drop a l)))
+
+-- the front is lent, and comes back with bytes that fill it
+pub lent-front : (n : ℕ) (l bytes front : List ℕ) → n ≡ length bytes → front ≡ bytes → putMid 0 n l front ≡ over bytes l
+unfolding over
+lent-front n l bytes front e f = ap₂ (λ (x : List ℕ) (k : ℕ). x ++ drop k l) f e

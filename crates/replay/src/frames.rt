@@ -1,5 +1,5 @@
-// The commands on frames: frame checksum, read, write and the bench line. Each writes its line and answers true, or answers false where
-// it meets a script error.
+// The commands on frames: frame checksum, read, write, the bench line and encode. Each writes its line and answers true, or answers false
+// where it meets a script error.
 use crate::item;
 use crate::item::Item;
 use crate::line;
@@ -19,12 +19,17 @@ const ID: usize = FLAGS + 1;
 
 const CYCLE: usize = ID + 2;
 
+// Behind its channel an item of `E` has the start length.
+const START: usize = CHANNEL + 1;
+
 // How many bytes they have.
 pub const CHANNEL_SIZE: usize = CHANNEL + 1;
 
 pub const WRITE_SIZE: usize = CYCLE + 1;
 
-// Plays the command on frames that has this letter: each takes a size and bytes behind its item, and `W` a room behind them.
+pub const ENCODE_SIZE: usize = START + 1;
+
+// Plays the command on frames that has this letter: each takes a size and bytes behind its item, `W` and `E` a room behind them.
 pub fn play(letter: u8, item: Item) -> bool {
     let mut space = [0u8; script::MOST];
     let size = script::take_bytes(&mut space);
@@ -39,7 +44,7 @@ fn answer(letter: u8, item: Item, bytes: &[u8]) -> bool {
     match letter {
         b'F' => answer_checksum(item[CHANNEL], bytes),
         b'R' => answer_read(item[CHANNEL], bytes),
-        b'W' => write(item, bytes),
+        b'W' | b'E' => answer_in_room(letter, item, bytes),
         b'P' => answer_bench(bytes),
         _ => false,
     }
@@ -84,16 +89,43 @@ fn put_header(line: &mut [u8; line::ROOM], at: usize, reading: Reading) -> usize
     line::decimals(line, at, &numbers)
 }
 
-// `W`, whose item is channel, flags, ID and cycle. The bytes are the payload, and the room stands behind them.
-fn write(item: Item, payload: &[u8]) -> bool {
+// `W` and `E`: the room stands behind the bytes, and output of that size is lent.
+fn answer_in_room(letter: u8, item: Item, bytes: &[u8]) -> bool {
     let room = script::take_size(script::MOST);
     if room.is_script_error {
         return false;
     }
-    let fields = fields_of(item[FLAGS], item::number(item, ID), item[CYCLE]);
     let lent = room.bytes;
     let mut output = [0xA5u8; script::MOST];
-    answer_write(item[CHANNEL], fields, payload, &mut output[0..lent])
+    match letter {
+        b'W' => answer_write(item, bytes, &mut output[0..lent]),
+        _ => answer_encode(item, bytes, &mut output[0..lent]),
+    }
+}
+
+// `W`, whose item is channel, flags, ID and cycle. The bytes are the payload: `write N LENGTH OUTPUT`
+fn answer_write(item: Item, payload: &[u8], output: &mut [u8]) -> bool {
+    let fields = fields_of(item[FLAGS], item::number(item, ID), item[CYCLE]);
+    let writing = writing::write(item[CHANNEL], fields, payload, output);
+    let numbers = [writing.number() as u64, writing.length() as u64];
+    line_with_output(b"write", &numbers, output)
+}
+
+// `E`, whose item is channel and start length: `encode N BITS OUTPUT`
+fn answer_encode(item: Item, bytes: &[u8], output: &mut [u8]) -> bool {
+    let encoding = wire::encode(item[CHANNEL], bytes, item[START], output);
+    let numbers = [encoding.number() as u64, encoding.bits() as u64];
+    line_with_output(b"encode", &numbers, output)
+}
+
+// A word, two numbers, and the whole output.
+fn line_with_output(word: &[u8], numbers: &[u64], output: &[u8]) -> bool {
+    let mut line = [0u8; line::ROOM];
+    let at = line::put(&mut line, 0, word);
+    let at = line::decimals(&mut line, at, numbers);
+    let at = line::hex(&mut line, at, output);
+    line::end(&mut line, at);
+    true
 }
 
 // The fields to write. A flag is a bit, the first the lowest; the bits above the five are not looked at.
@@ -107,18 +139,6 @@ pub fn fields_of(flags: u8, id: u16, cycle: u8) -> Fields {
         id: Slot(id),
         cycle: Cycle(cycle),
     }
-}
-
-// `write N LENGTH OUTPUT`
-fn answer_write(channel: u8, fields: Fields, payload: &[u8], output: &mut [u8]) -> bool {
-    let writing = writing::write(channel, fields, payload, output);
-    let numbers = [writing.number() as u64, writing.length() as u64];
-    let mut line = [0u8; line::ROOM];
-    let at = line::put(&mut line, 0, b"write");
-    let at = line::decimals(&mut line, at, &numbers);
-    let at = line::hex(&mut line, at, output);
-    line::end(&mut line, at);
-    true
 }
 
 // `P`, which has no item: the line that the bench program writes for these bytes.

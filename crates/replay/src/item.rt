@@ -40,6 +40,7 @@ fn size_behind(letter: u8) -> usize
     match letter {
         b'F' | b'R' => frames::CHANNEL_SIZE,
         b'W' => frames::WRITE_SIZE,
+        b'E' => frames::ENCODE_SIZE,
         b'L' => sheet::SIZE,
         b'O' => clocks::OPEN_SIZE,
         b'M' => clocks::MEASURE_SIZE,

@@ -5,7 +5,7 @@ ghost use Rattle.replay.specs.Items.{lineRoom};
 use base_types::SignedMicrotick;
 use libc::STDOUT_FILENO;
 
-// Room for every line. The longest is that of a write with 600 bytes of output: 1,213 characters.
+// Room for every line. The longest is that of an encoding of 2,638 bits with 600 bytes of output: 1,215 characters.
 pub const ROOM: usize = 1300;
 
 // Writes a line of a word and numbers.

@@ -29,7 +29,7 @@ fn play(letter: u8, held: Held) -> Held {
 // Plays the command whose item has been taken. An unknown letter is a script error.
 fn play_item(letter: u8, item: Item, held: Held) -> Held {
     match letter {
-        b'F' | b'R' | b'W' | b'P' => held.after(frames::play(letter, item)),
+        b'F' | b'R' | b'W' | b'P' | b'E' => held.after(frames::play(letter, item)),
         b'L' | b'O' | b'M' | b'C' | b'K' => held.with_clock(clocks::play(
             letter,
             item,

@@ -71,19 +71,8 @@ fn add_listed_frames(plan: &mut Plan, channel: Channel) {
 
 /// One frame, and what is made of it for each refusal.
 fn add_each_refusal(plan: &mut Plan, channel: Channel) {
-    let good = Draft::plain(channel, NULL_FRAME_BIT, 1, 0, 0);
-    let cases = [
-        (2, SHORT.bytes(channel), "refused 1"),
-        (channel.number(), SHORT.sized(channel, 7), "refused 2"),
-        (channel.number(), SHORT.sized(channel, 9), "refused 3"),
-        (channel.number(), Draft { header_checksum_change: 1, ..good.clone() }.bytes(), "refused 4"),
-        (channel.number(), SHORT.sized(channel, 10), "refused 5"),
-        (channel.number(), Draft::plain(channel, NULL_FRAME_BIT, 0, 0, 0).bytes(), "refused 6"),
-        (channel.number(), Draft::plain(channel, 0b10100, 1, 0, 0).bytes(), "refused 7"),
-        (channel.number(), Draft { frame_checksum_change: 1, ..good }.bytes(), "refused 8"),
-    ];
-    for (number, frame, line) in cases {
-        add_listed(plan, &on(number, &frame), line);
+    for (number, given) in (1..).zip(listed_frames::refused(channel)) {
+        add_listed(plan, &on(given.channel, &given.bytes), &format!("refused {number}"));
     }
 }
 

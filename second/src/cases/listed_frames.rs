@@ -29,7 +29,7 @@ fn add_number(plan: &mut Plan, command: Command, line: String) {
 }
 
 /// Written apart from that of the answers, which is checked by it.
-fn hex(bytes: &[u8]) -> String {
+pub(super) fn hex(bytes: &[u8]) -> String {
     if bytes.is_empty() {
         return "-".to_string();
     }

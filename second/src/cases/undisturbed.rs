@@ -1,12 +1,16 @@
 //! Frame commands between two showings of a status: they are about no slot, and the status stays as it is.
 
 use crate::channel::Channel;
-use crate::faults::{faulty_bench, faulty_checksum, faulty_read, faulty_write};
+use crate::faults::{faulty_bench, faulty_checksum, faulty_encode, faulty_read, faulty_write};
 use crate::history::{demanded, play_opened, show, Happening, Sort};
 use crate::plan::Plan;
 use crate::random::Random;
-use crate::refusal::{Refusal, READ_ORDER};
+use crate::refusal::{Refusal, ENCODE_ORDER, READ_ORDER};
 use crate::scene::{Kind, Scene};
+use crate::script::Command;
+
+/// Makes a command in which each of the named refusals has a cause.
+type Faulty = fn(&mut Random, &[Refusal]) -> Command;
 
 pub fn add(plan: &mut Plan, random: &mut Random) {
     for channel in Channel::BOTH {
@@ -16,7 +20,8 @@ pub fn add(plan: &mut Plan, random: &mut Random) {
                 add_undisturbed(plan, random, &scene, arrival);
             }
         }
-        add_bench_lines(plan, random, channel);
+        add_every_answer(plan, random, channel, &READ_ORDER, faulty_bench);
+        add_every_answer(plan, random, channel, &ENCODE_ORDER, faulty_encode);
     }
 }
 
@@ -25,7 +30,7 @@ fn add_undisturbed(plan: &mut Plan, random: &mut Random, scene: &Scene, arrival:
     let history = [Happening::any(random, scene, arrival)];
     let held = demanded(&scene.fresh(), &history);
     play_opened(plan, scene, &history);
-    // The channel is the one cause that all four entries have.
+    // The channel is the one cause that all five entries have.
     for faults in [&[][..], &[Refusal::Channel]] {
         add_frame_commands(plan, random, faults);
         show(plan, &held);
@@ -38,20 +43,21 @@ fn add_frame_commands(plan: &mut Plan, random: &mut Random, faults: &[Refusal]) 
         faulty_read(random, faults),
         faulty_write(random, faults),
         faulty_bench(random, faults),
+        faulty_encode(random, faults),
     ];
     commands.into_iter().for_each(|command| plan.add_faulty(command, faults));
 }
 
-/// Every answer of the bench program, whose frames are read like those that arrive in the slot.
-fn add_bench_lines(plan: &mut Plan, random: &mut Random, channel: Channel) {
+/// Every answer of an entry whose frames are read like those that arrive in the slot: the bench program, an encoding.
+fn add_every_answer(plan: &mut Plan, random: &mut Random, channel: Channel, order: &[Refusal], faulty: Faulty) {
     let scene = Scene::fair(random, channel, Kind::Static);
     let history = [Happening::any(random, &scene, Sort::Missing)];
     let held = demanded(&scene.fresh(), &history);
     play_opened(plan, &scene, &history);
-    plan.add_faulty(faulty_bench(random, &[]), &[]);
+    plan.add_faulty(faulty(random, &[]), &[]);
     show(plan, &held);
-    for refusal in READ_ORDER {
-        plan.add_faulty(faulty_bench(random, &[refusal]), &[refusal]);
+    for refusal in order {
+        plan.add_faulty(faulty(random, &[*refusal]), &[*refusal]);
         show(plan, &held);
     }
 }

@@ -31,7 +31,7 @@ fn sized_write(random: &mut Random, channel: Channel, size: usize) -> Write {
     Write { payload: random.bytes(size), room: SMALLEST_FRAME + size, ..fair }
 }
 
-fn accepted_if(right: bool, refusal: Refusal) -> Expected {
+pub(super) fn accepted_if(right: bool, refusal: Refusal) -> Expected {
     if right {
         Expected::Accepted
     } else {

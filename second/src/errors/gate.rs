@@ -1,7 +1,8 @@
-//! One script for each kind of script error, played beside the listed cases: good commands, the error, a good command.
+//! One script for each kind of script error, and for each command that has a room, played beside the listed cases: good
+//! commands, the error, a good command.
 
-use super::{bytes_of, changed, frame, Small, OPENING, REASON, SENDS_SYNC, SETTINGS, STATUS};
-use crate::script::{Cause, Command, Write, LIMIT};
+use super::{bytes_of, changed, encode, frame, Small, OPENING, REASON, SENDS_SYNC, SETTINGS, STATUS};
+use crate::script::{Cause, Command, Encode, Write, LIMIT};
 
 /// Played before the error.
 fn before() -> Vec<u8> {
@@ -32,12 +33,14 @@ script error at 7
 const BEHIND: Command = Command::Show;
 
 /// With a name for each. But for its fault each command would be good, and the one behind it is.
-pub fn one_of_each() -> [(String, Small); 6] {
+pub fn one_of_each() -> [(String, Small); 7] {
     let room_above = Write { channel: 0, flags: 0b00100, id: 1, cycle: 0, payload: vec![1, 2], room: LIMIT + 1 };
+    let encode_above = Encode { room: LIMIT + 1, ..encode() };
     let cases = [
         ("unknown_letter", Cause::UnknownLetter, b"Z".to_vec()),
         (&format!("size_above_{LIMIT}")[..], Cause::SizeAbove, bytes_of(&Command::read(0, &[0; LIMIT + 1]))),
         (&format!("room_above_{LIMIT}"), Cause::RoomAbove, bytes_of(&Command::Write(room_above))),
+        (&format!("encode_room_above_{LIMIT}"), Cause::RoomAbove, bytes_of(&Command::Encode(encode_above))),
         ("wrong_switch", Cause::WrongSwitch, changed(&Command::Load(SETTINGS), SENDS_SYNC, 2)),
         ("reason_above_5", Cause::ReasonAbove, changed(&Command::PutStatus(STATUS), REASON, 6)),
         ("end_inside", Cause::EndInside, bytes_of(&Command::read(0, &frame()))),

@@ -2,15 +2,16 @@
 
 use crate::faults::selections;
 use crate::refusal::{
-    Refusal, CLOSE_CYCLE_ORDER, MEASURE_ORDER, OPEN_CYCLE_ORDER, OPEN_SLOT_ORDER, READ_ORDER, WRITE_ORDER,
+    Refusal, CLOSE_CYCLE_ORDER, ENCODE_ORDER, MEASURE_ORDER, OPEN_CYCLE_ORDER, OPEN_SLOT_ORDER, READ_ORDER, WRITE_ORDER,
 };
 
 /// By the letter of the entry.
-const ORDERS: [(char, &[Refusal]); 12] = [
+const ORDERS: [(char, &[Refusal]); 13] = [
     ('F', &[Refusal::Channel]),
     ('R', &READ_ORDER),
     ('W', &WRITE_ORDER),
     ('P', &READ_ORDER),
+    ('E', &ENCODE_ORDER),
     ('S', &OPEN_SLOT_ORDER),
     ('A', &[Refusal::NotSound]),
     ('B', &[Refusal::NotSound]),
@@ -55,10 +56,13 @@ pub(super) fn required() -> Vec<String> {
 fn can_stand_together(letter: char, causes: &[Refusal]) -> bool {
     let has = |cause| causes.contains(&cause);
     match letter {
-        // Fewer than 8 bytes have no whole header and no trailer, so that besides 2 only their size can be a cause.
-        'R' | 'P' if has(Refusal::TooFewBytes) => causes.iter().all(|cause| *cause <= Refusal::Size),
+        // Fewer than 8 bytes have no whole header and no trailer, so that besides 2 only their size can be a cause, and
+        // what has nothing to do with them.
+        'R' | 'P' | 'E' if has(Refusal::TooFewBytes) => {
+            causes.iter().all(|cause| *cause <= Refusal::Size || *cause > Refusal::FrameChecksum)
+        }
         // No number of words makes an odd size or one above the highest.
-        'R' | 'P' => has(Refusal::WordsAgainstSize) || !has(Refusal::Size),
+        'R' | 'P' | 'E' => has(Refusal::WordsAgainstSize) || !has(Refusal::Size),
         _ if has(Refusal::NotSound) => causes.len() == 1 && "ABX".contains(letter),
         // An ID that was measured already is listed, so that there is a place for it. Where no cycle is open, no frame's
         // cycle is the open one.

@@ -27,11 +27,13 @@ impl Reached {
 pub(super) fn required() -> Vec<String> {
     let mut all = vec![
         "end of a whole script".to_string(),
-        "'<F|R|W|A|P>' ends by SizeAbove".to_string(),
-        "'W' ends by RoomAbove".to_string(),
+        "'<F|R|W|A|P|E>' ends by SizeAbove".to_string(),
+        "'<W|E>' ends by RoomAbove".to_string(),
         "'T' ends by ReasonAbove".to_string(),
         // B, X and D have no bytes behind their letter.
-        "'<F|R|W|P|S|A|T|L|O|M|C|K>' ends by EndInside".to_string(),
+        "'<F|R|W|P|E|S|A|T|L|O|M|C|K>' ends by EndInside".to_string(),
+        // Letter, channel, start, size (2), a frame of 8 bytes and all but the last byte of the room.
+        "'E' ends by EndInside at <0..13>".to_string(),
         format!("'<L|S|K|T>' ends by WrongSwitch at {SENDS_SYNC}"),
         format!("'K' ends by WrongSwitch at <{OPEN}|{CLOSED}>"),
         format!("'T' ends by WrongSwitch at <{CHANNEL}|{KEPT}>"),

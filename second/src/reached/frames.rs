@@ -57,9 +57,9 @@ pub(super) fn required() -> Vec<String> {
     for channel in Channel::BOTH {
         let (own, other) = (channel.number(), channel.other().number());
         let listed = format!("of listed frame <0..2> for {channel:?}");
-        all.push(format!("<F|R|W|P> {listed} on {own}: 0"));
-        all.push(format!("<R|P> {listed} on {other}: 8"));
-        all.push(format!("P {listed} on <{foreign}>: 1"));
+        all.push(format!("<F|R|W|P|E> {listed} on {own}: 0"));
+        all.push(format!("<R|P|E> {listed} on {other}: 8"));
+        all.push(format!("<P|E> {listed} on <{foreign}>: 1"));
         let known = [0, REMAINDER, channel.start_value(), CHECK_VALUES[usize::from(own)]];
         all.extend(known.map(|checksum| format!("frame checksum {checksum:#x} on {own}")));
     }

@@ -11,9 +11,10 @@ use crate::frame::{
     Fields, Indicators, HIGHEST_CYCLE, HIGHEST_ID, LARGEST_FRAME, LARGEST_PAYLOAD, MOST_WORDS, SMALLEST_FRAME,
 };
 use crate::refusal::Refusal;
-use crate::script::{Command, Opening, Write, LIMIT};
+use crate::script::{Command, Encode, Opening, Write, LIMIT};
 use crate::settings::{self, Settings, FIELDS};
 use crate::sync_list::DEVIATIONS;
+use crate::wire;
 
 impl Reached {
     pub(super) fn add_given(&mut self, command: &Command, answer: &Answer) {
@@ -32,15 +33,19 @@ fn parts(command: &Command, answer: &Answer) -> Vec<(String, i64)> {
     let plain = match (command, answer) {
         (Command::Checksum(given), _) => vec![("channel", given.channel.into())],
         (Command::Read(given), Answer::Read(found, _)) => {
-            let flags = given.bytes.first().map(|first| ("flags", leading_flags(*first)));
-            let given = [("channel", given.channel.into()), ("size", given.bytes.len() as i64)];
-            given.into_iter().chain(flags).chain(found.iter().flat_map(of_fields)).collect()
+            let size = ("size", given.bytes.len() as i64);
+            let given = [("channel", given.channel.into()), size].into_iter().chain(leading_flags(&given.bytes));
+            given.chain(found.iter().flat_map(of_fields)).collect()
         }
         (Command::Write(write), _) => of_write(write).into(),
         (Command::Bench(input), Answer::Bench(found)) => {
             let channel = input.first().map(|channel| ("channel", (*channel).into()));
             let size = ("size", input.len() as i64);
             [size].into_iter().chain(channel).chain(found.iter().flat_map(of_fields)).collect()
+        }
+        (Command::Encode(encode), Answer::Encode(found, _)) => {
+            let given = of_encode(encode).into_iter().chain(leading_flags(&encode.frame));
+            given.chain(found.iter().map(|bits| ("bits", *bits as i64))).collect()
         }
         (Command::OpenSlot(Opening { settings, channel, slot, cycle }), Answer::Opened(_, told)) => {
             let given = [("channel", (*channel).into()), ("slot", (*slot).into()), ("cycle", (*cycle).into())];
@@ -66,8 +71,8 @@ fn with_channel(plain: &[(&str, i64)]) -> Vec<(String, i64)> {
 }
 
 /// The first five bits of a frame, as flags: sending order from the lowest bit up.
-fn leading_flags(first: u8) -> i64 {
-    (first.reverse_bits() & 0b11111).into()
+fn leading_flags(frame: &[u8]) -> Option<(&'static str, i64)> {
+    frame.first().map(|first| ("flags", (first.reverse_bits() & 0b11111).into()))
 }
 
 fn of_fields(fields: &Fields) -> [(&'static str, i64); 3] {
@@ -85,6 +90,19 @@ fn of_write(write: &Write) -> [(&'static str, i64); 8] {
         ("payload", payload),
         ("room", room),
         ("spare room", room - payload - SMALLEST_FRAME as i64),
+    ]
+}
+
+fn of_encode(encode: &Encode) -> [(&'static str, i64); 6] {
+    let size = encode.frame.len();
+    let [bits, packed] = [wire::bits_of(encode.start, size), wire::packed_size(encode.start, size)];
+    [
+        ("channel", encode.channel.into()),
+        ("start", encode.start.into()),
+        ("size", size as i64),
+        ("room", encode.room as i64),
+        ("spare room", encode.room as i64 - packed as i64),
+        ("spare bits", (8 * packed - bits) as i64),
     ]
 }
 
@@ -124,12 +142,12 @@ pub(super) fn required() -> Vec<String> {
     let (odd, large, larger) = (LARGEST_PAYLOAD - 1, LARGEST_PAYLOAD + 1, LARGEST_PAYLOAD + 2);
     let (lowest, highest, latest) = (DEVIATIONS.start(), DEVIATIONS.end(), i64::from(LATEST));
     let mut all = vec![
-        format!("<F|R|W|P|S> given channel <{}>: 1", any(FOREIGN_CHANNELS)),
+        format!("<F|R|W|P|E|S> given channel <{}>: 1", any(FOREIGN_CHANNELS)),
         format!("R given id <1..{id}>: 0"),
         format!("<R|W|O> given cycle <0..{cycle}>: 0"),
         "W given unnamed flags <0..7>: 0".to_string(),
         format!("W given payload <1|{odd}|{large}|{larger}|{LIMIT}>: 10"),
-        "W given spare room <0|1>: 0".to_string(),
+        "<W|E> given spare room <0|1>: 0".to_string(),
         "W given spare room -1: 13".to_string(),
         "W given room 0: 13".to_string(),
         format!("P given id <1|10|100|101|110|1000|1001|1010|2000|{id}>: 0"),
@@ -144,15 +162,32 @@ pub(super) fn required() -> Vec<String> {
     all.extend(ends("<W|S|O> given cycle", (0, cycle), u8::MAX.into(), Refusal::Cycle));
     all.extend(ends("M given <observed|action point>", (0, latest), u32::MAX.into(), Refusal::Time));
     all.extend(ends("C given <offset|rate> control", (-1, 1), i8::MAX.into(), Refusal::Control));
-    all.extend([flags(), sizes(), settings()].concat());
+    all.extend([flags(), sizes(), encodings(), settings()].concat());
+    all
+}
+
+/// Every start length and every number of spare bits, on both channels; the numbers of bits are those that are known.
+fn encodings() -> Vec<String> {
+    let mut all = vec![
+        "E given start on <0|1> <1..15>: 0".to_string(),
+        "E given spare bits on <0|1> <0..7>: 0".to_string(),
+        "E given bits <84|85|86|89|98|127|128|131>: 0".to_string(),
+        "E given bits on <0|1> <84|2628|2631|2638>: 0".to_string(),
+        "E given room on <0|1> <11|330>: 0".to_string(),
+        "E given room on <0|1> <0|10|329>: 25".to_string(),
+        "E given spare room -1: 25".to_string(),
+        "E given size <0..7>: 2".to_string(),
+        format!("E given size <9|261|263|264|{LIMIT}>: 3"),
+    ];
+    all.extend(ends("E given start", (1, 15), u8::MAX.into(), Refusal::StartLength));
     all
 }
 
 fn flags() -> Vec<String> {
     let of_flags = |flags| match Indicators::from_flags(flags) {
-        bits if bits.startup_without_sync() => format!("R given flags {flags}: 7"),
-        bits if bits.reserved => format!("R given flags {flags}: 0"),
-        _ => format!("<R|W> given flags {flags}: 0"),
+        bits if bits.startup_without_sync() => format!("<R|E> given flags {flags}: 7"),
+        bits if bits.reserved => format!("<R|E> given flags {flags}: 0"),
+        _ => format!("<R|W|E> given flags {flags}: 0"),
     };
     (0..32).map(of_flags).collect()
 }
@@ -161,7 +196,7 @@ fn sizes() -> Vec<String> {
     let of_size = |size: usize| match size {
         _ if size < SMALLEST_FRAME => format!("R given size {size}: 2"),
         _ if size % 2 == 1 || size > LARGEST_FRAME => format!("R given size {size}: 3"),
-        _ => format!("R given size on <0|1> {size}: 0"),
+        _ => format!("<R|E> given size on <0|1> {size}: 0"),
     };
     let of_input = |size: usize| match size {
         0 => "P given size 0: 1".to_string(),

@@ -63,7 +63,7 @@ impl Reached {
 /// Every answer is given while a state is held that it isn't about. No event and no entry of the clock goes on with zeros.
 pub(super) fn required() -> Vec<String> {
     let marks = any([Mark::SyntaxError, Mark::ContentError, Mark::Valid].map(Mark::bit));
-    let mut all = vec![format!("marks <{marks}> stay beside <F|R|W|P>, accepted: <false|true>")];
+    let mut all = vec![format!("marks <{marks}> stay beside <F|R|W|P|E>, accepted: <false|true>")];
     all.push(
         "<A|B|X> on zeros of <Start|Refused(Setting)|Refused(Channel)|Refused(IdGiven)|Refused(Cycle)>".to_string(),
     );

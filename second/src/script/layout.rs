@@ -1,6 +1,6 @@
 //! The parts of every command in their order, told once: for taking them from a script and for adding them to one.
 
-use super::{Broken, Cause, Command, OnChannel, Opening, Write, LIMIT};
+use super::{Broken, Cause, Command, Encode, OnChannel, Opening, Write, LIMIT};
 use crate::channel::Channel;
 use crate::clock::Times;
 use crate::clock_numbers::{ClockNumbers, ListNumbers, RowNumbers};
@@ -74,6 +74,11 @@ trait Way {
         self.bytes(bytes)
     }
 
+    /// The size of the output that is lent.
+    fn room(&mut self, room: &mut usize) -> Done {
+        self.size(room, Cause::RoomAbove)
+    }
+
     fn on_channel(&mut self, given: &mut OnChannel) -> Done {
         self.byte(&mut given.channel)?;
         self.sized(&mut given.bytes)
@@ -85,7 +90,14 @@ trait Way {
         self.number(&mut write.id)?;
         self.byte(&mut write.cycle)?;
         self.sized(&mut write.payload)?;
-        self.size(&mut write.room, Cause::RoomAbove)
+        self.room(&mut write.room)
+    }
+
+    fn encode(&mut self, encode: &mut Encode) -> Done {
+        self.byte(&mut encode.channel)?;
+        self.byte(&mut encode.start)?;
+        self.sized(&mut encode.frame)?;
+        self.room(&mut encode.room)
     }
 
     fn settings(&mut self, settings: &mut Settings) -> Done {
@@ -158,6 +170,7 @@ trait Way {
         match command {
             Command::Checksum(given) | Command::Read(given) => self.on_channel(given),
             Command::Write(write) => self.write(write),
+            Command::Encode(encode) => self.encode(encode),
             Command::Bench(bytes) | Command::Arrived(bytes) => self.sized(bytes),
             Command::OpenSlot(opening) => self.opening(opening),
             Command::PutStatus(numbers) => self.status(numbers),

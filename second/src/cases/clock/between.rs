@@ -4,12 +4,14 @@ use crate::clock_faults::{faulty_close, faulty_measure, faulty_open};
 use crate::clock_history::{put, show};
 use crate::clock_numbers::ClockNumbers;
 use crate::clock_scene::fair_clock;
-use crate::faults::{faulty_bench, faulty_checksum, faulty_opening, faulty_read, faulty_write, wrong_value};
+use crate::faults::{
+    faulty_bench, faulty_checksum, faulty_encode, faulty_opening, faulty_read, faulty_write, wrong_value,
+};
 use crate::history::{self, Happening, Sort};
 use crate::plan::{Expected, Plan};
 use crate::random::Random;
 use crate::refusal::{
-    Refusal, CLOSE_CYCLE_ORDER, MEASURE_ORDER, OPEN_CYCLE_ORDER, OPEN_SLOT_ORDER, READ_ORDER, WRITE_ORDER,
+    Refusal, CLOSE_CYCLE_ORDER, ENCODE_ORDER, MEASURE_ORDER, OPEN_CYCLE_ORDER, OPEN_SLOT_ORDER, READ_ORDER, WRITE_ORDER,
 };
 use crate::scene::{fair_settings, Scene};
 use crate::script::Command;
@@ -48,6 +50,7 @@ fn foreign_commands(random: &mut Random) -> Vec<Command> {
     all.extend(each(&READ_ORDER).iter().map(|faults| faulty_read(random, faults)));
     all.extend(each(&WRITE_ORDER).iter().map(|faults| faulty_write(random, faults)));
     all.extend(each(&READ_ORDER).iter().map(|faults| faulty_bench(random, faults)));
+    all.extend(each(&ENCODE_ORDER).iter().map(|faults| faulty_encode(random, faults)));
     // Refused openings first, so that events find the status of all zeros.
     for faults in each(&OPEN_SLOT_ORDER).iter().rev() {
         all.push(Command::OpenSlot(faulty_opening(random, faults)));

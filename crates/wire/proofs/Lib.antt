@@ -1,0 +1,3 @@
+pub mod PackingLaws
+pub mod AnswerLaws
+pub mod EncodeLaws

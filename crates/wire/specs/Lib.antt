@@ -1,0 +1,5 @@
+pub mod Stream
+pub mod Packing
+pub mod Refusals
+pub mod Encode
+pub mod Pending

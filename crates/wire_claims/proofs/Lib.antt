@@ -1,0 +1,4 @@
+pub mod Answers
+pub mod Streams
+pub mod Witnesses
+pub mod Known
