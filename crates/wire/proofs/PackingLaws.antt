@@ -1,20 +1,20 @@
 -- The stream ten bits at a time, and its packing.
 use Prim.Native.Nat.{ℕ, zero, suc, _+_, _*_, _-_, _/_, _%_, _^_, _<_, _≤_}
 use mathlib.Core.Path.{_≡_, refl, sym, ap, ap₂, _∙_}
-use mathlib.Core.Bool.{Bool, true, false}
+use mathlib.Core.Bool.{Bool}
 use mathlib.Core.List.{List, [], _∷_, _++_, append-assoc, append-nil}
 use native.Mathlib.Nat.{div-eq-of-lt, pow-le-pow-right}
 use native.Mathlib.Omega.{arith}
 use lib.ListN.{length, getD, take, drop, set, replicate, length-append, length-drop, length-replicate, replicate-append-replicate}
-use lib.Seq.{drop-cons, append-snoc, take-suc-set, take-append-le, drop-append-le, take-at, drop-at, take-all}
-use Rattle.division.specs.Bits.{odd, bits, number, bytesOf, AreBytes}
-use Rattle.division.proofs.BitsLaws.{length-bits, number-bits}
+use lib.Seq.{drop-cons, append-snoc, take-suc-set, take-all}
+use Rattle.division.specs.Bits.{odd, bits, bytesOf, AreBytes}
+use Rattle.division.proofs.BitsLaws.{length-bits}
 use Rattle.division.proofs.BytesLaws.{bits-mod, bits-split, bits-low, length-bytes-of, bytes-of-front}
 use Rattle.lent_bytes.proofs.NumberLaws.{first-byte}
 use Rattle.wire.specs.declared.packing.Pending.{Pending}
 use Rattle.wire.specs.Stream.{low, high, coded, stream}
 use Rattle.wire.specs.Packing.{packedSize, spareBits, packed}
-use Rattle.wire.specs.Pending.{tens, tenBits, toCome, Filled}
+use Rattle.wire.specs.Pending.{tens, tenBits, toCome}
 
 -- ---- ten bits at a time
 

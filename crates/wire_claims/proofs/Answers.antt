@@ -1,6 +1,6 @@
 -- The claims about the answers, from the statement alone.
-use Prim.Native.Nat.{ℕ, zero, suc, _+_, _*_, _<_, _≤_}
-use mathlib.Core.Path.{_≡_, refl, sym, ap, ap₂, _∙_}
+use Prim.Native.Nat.{ℕ, zero, suc, _<_, _≤_}
+use mathlib.Core.Path.{_≡_, refl, sym, ap, _∙_}
 use mathlib.Core.Bool.{Bool, true, false, cond, _&&_}
 use mathlib.Core.List.{List, [], _∷_, List·Memᴰ, List·Memᴰ·head, List·Memᴰ·tail}
 use mathlib.Core.Logic.{_⊎_, inl, inr}
@@ -9,18 +9,16 @@ use borrow.Author.Tests.{ltb-true, ltb-false, ne-eqb}
 use lib.Dec.{eqb, ltb}
 use lib.ListN.{length}
 use Rattle.numbers.proofs.Truth.{both-true, neither}
-use Rattle.numbers.proofs.Walk.{cases}
-use Rattle.refusal.specs.Refusal.{_when_, first, ifAccepted, numbers, numbered}
+use Rattle.refusal.specs.Refusal.{_when_, first, numbers, numbered}
 use Rattle.refusal.proofs.FirstLaws.{first-in-order, told-in-order, if-accepted, if-refused, first-in-front, first-past}
 use Rattle.header.specs.Layout.{longestFrame}
 use Rattle.frame.specs.Read as read
 use Rattle.frame.proofs.AnswerLaws.{number-at-most}
 use Rattle.frame_claims.proofs.Answers.{readingBy, reading-by}
-use Rattle.lent_bytes.specs.Over.{over}
 use Rattle.wire.specs.declared.Encoding.{Encoding}
 use Rattle.wire.specs.declared.Encoding.the-variants as encoding
 use Rattle.wire.specs.Stream.{stream}
-use Rattle.wire.specs.Packing.{packedSize, packed}
+use Rattle.wire.specs.Packing.{packedSize}
 use Rattle.wire.specs.Refusals.{shortestStart, longestStart, notAStartLength, outputTooShort, mostPacked}
 use Rattle.wire.specs.Encode.{Told, told, ownRefusals, refusals, refusal, rule, EncodeSays}
 use Rattle.wire.proofs.PackingLaws.{length-stream}
@@ -64,10 +62,10 @@ encoding-by (encoding.NotAFrame r) h =
 encoding-by encoding.NotAStartLength h = refl
 encoding-by encoding.OutputTooShort h = refl
 
--- no stream has no bits
-some-bits : (channel : ℕ) (bytes : List ℕ) (start : ℕ) (before after : List ℕ) (r : Encoding)
+-- there is no stream of 0 bits
+not-encoded-0 : (channel : ℕ) (bytes : List ℕ) (start : ℕ) (before after : List ℕ) (r : Encoding)
     → EncodeSays channel bytes start before after r → r ≡ encoding.Encoded 0 → ⊥
-some-bits channel bytes start before after r h e =
+not-encoded-0 channel bytes start before after r h e =
     let none : refusal channel bytes start before ≡ 0 =
     sym (told-number channel bytes start before r h) ∙ ap (λ (x : Encoding). told x .refusal .number) e in
     let no-bits : 0 ≡ length (stream start bytes) =
@@ -77,9 +75,9 @@ some-bits channel bytes start before after r h e =
 
 pub encode-one : EncodeOne
 encode-one channel bytes start before after after′ r s hr hs = (
-  sym (encoding-by r (some-bits channel bytes start before after r hr))
+  sym (encoding-by r (not-encoded-0 channel bytes start before after r hr))
       ∙ ap encodingBy (hr .answers ∙ sym (hs .answers))
-      ∙ encoding-by s (some-bits channel bytes start before after′ s hs),
+      ∙ encoding-by s (not-encoded-0 channel bytes start before after′ s hs),
   hr .writes ∙ sym (hs .writes),
 )
 

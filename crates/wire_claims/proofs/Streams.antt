@@ -1,5 +1,5 @@
 -- The claims about streams, and about what lies in the output.
-use Prim.Native.Nat.{ℕ, zero, suc, _+_, _*_, _-_, _%_, _^_, _<_, _≤_}
+use Prim.Native.Nat.{ℕ, zero, suc, _+_, _*_, _-_, _≤_}
 use mathlib.Core.Path.{_≡_, refl, sym, ap, ap₂, _∙_}
 use mathlib.Core.Bool.{Bool, true, false, false≢true}
 use mathlib.Core.List.{List, [], _∷_, _++_, append-assoc}
@@ -10,7 +10,7 @@ use lib.Dec.{ltb}
 use lib.ListN.{length, take, drop, replicate, length-append, length-replicate}
 use lib.Seq.{take-at, drop-at}
 use Rattle.numbers.proofs.Truth.{neither}
-use Rattle.refusal.specs.Refusal.{first, ifAccepted, numbered}
+use Rattle.refusal.specs.Refusal.{first, numbered}
 use Rattle.refusal.proofs.FirstLaws.{not-refused, if-accepted, first-past, first-in-front, first-skip, first-end}
 use Rattle.division.specs.Bits.{bits, bytesBits, AreBytes}
 use Rattle.division.proofs.BitsLaws.{one-width, bits-inj}
@@ -26,7 +26,7 @@ use Rattle.wire.specs.declared.Encoding.the-variants.{Encoded}
 use Rattle.wire.specs.Stream.{low, high, coded, stream}
 use Rattle.wire.specs.Packing.{packedSize, spareBits, packed}
 use Rattle.wire.specs.Refusals.{shortestStart, longestStart, notAStartLength, outputTooShort}
-use Rattle.wire.specs.Encode.{Told, told, ownRefusals, refusals, refusal, EncodeSays}
+use Rattle.wire.specs.Encode.{Told, told, ownRefusals, refusals, refusal}
 use Rattle.wire.proofs.PackingLaws.{length-stream, length-packed}
 use Rattle.wire.proofs.EncodeLaws.{past-reading, encode-accepted}
 use Rattle.wire_claims.specs.Streams.{bitsOf, StreamLength, StreamTells, Encodable, EncodeExactly, Laid, EncodeLays}

@@ -1,21 +1,16 @@
 -- What each witness shows, from the statement of the entry.
 use Prim.Native.Nat.{ℕ, zero, suc}
 use mathlib.Core.Path.{_≡_, refl, sym, ap, subst, _∙_}
-use mathlib.Core.Bool.{Bool, true, false, not, _&&_}
+use mathlib.Core.Bool.{true, not, _&&_}
 use mathlib.Core.List.{List}
 use mathlib.Core.Logic.{_↔_}
 use native.Mathlib.Omega.{arith}
 use borrow.Author.Tests.{eqb-false, not-true, ne-eqb}
 use lib.Dec.{eqb}
-use lib.ListN.{length, take}
 use Rattle.numbers.proofs.Truth.{both-true, true-both}
-use Rattle.refusal.specs.Refusal.{ifAccepted}
-use Rattle.division.specs.Bits.{bytesBits, AreBytes}
+use Rattle.division.specs.Bits.{AreBytes}
 use Rattle.wire.specs.declared.Encoding.{Encoding}
-use Rattle.wire.specs.declared.Encoding.the-variants.{Encoded}
-use Rattle.wire.specs.Stream.{stream}
-use Rattle.wire.specs.Encode.{Told, told, refusal, EncodeSays}
-use Rattle.wire.proofs.PackingLaws.{length-stream}
+use Rattle.wire.specs.Encode.{told, refusal, EncodeSays}
 use Rattle.wire_claims.specs.Answers.{NumberTold}
 use Rattle.wire_claims.specs.Streams.{bitsOf, Encodable, Laid, EncodedBits, ToldApart}
 use Rattle.wire_claims.proofs.Answers.{told-number, encode-in-order, encode-refused}

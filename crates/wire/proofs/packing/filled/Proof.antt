@@ -1,6 +1,5 @@
 -- `filled` meets its contract: ten bits more are held, where there were too few.
 use borrow.Author.Needs.{needs}
-use mathlib.Core.Path.{_≡_, sym, ap, _∙_}
 use native.Mathlib.Omega.{arith}
 use denote.Ref.{now}
 use Rattle.wire.proofs.PackingLaws.{same-to-come, length-tens}
