@@ -6,13 +6,15 @@ use mathlib.Core.List.{List, []}
 use native.Mathlib.Omega.{arith}
 use lib.ListN.{length, take, drop, length-take, take-append-drop, drop-of-length-le}
 use lib.Seq.{length-take-le, take-add, drop-at}
-use Rattle.refusal.specs.Refusal.{first}
-use Rattle.refusal.proofs.FirstLaws.{first-zero}
-use Rattle.division.specs.Bits.{bits, number, bytesBits}
+use borrow.Author.Tests.{ltb-false}
+use Rattle.numbers.proofs.Truth.{neither}
+use Rattle.refusal.specs.Refusal.{first, numbered}
+use Rattle.refusal.proofs.FirstLaws.{first-zero, not-refused}
+use Rattle.division.specs.Bits.{odd, bits, number, bytesBits}
 use Rattle.division.proofs.BitsLaws.{bits-number}
 use Rattle.division.proofs.BytesLaws.{length-bytes, bytes-append}
 use Rattle.base_types.specs.Channel.{notAChannel}
-use Rattle.header.specs.Layout.{headerIn}
+use Rattle.header.specs.Layout.{longestFrame, headerIn}
 use Rattle.header.proofs.HeaderLaws.{header-front}
 use Rattle.frame.specs.Refusals.{tooShort}
 use Rattle.frame.specs.Read.{headerRead, payloadRead, refusals, payloadOffset, partOffset}
@@ -57,3 +59,9 @@ lies-from-5 channel bytes = by (first (refusals channel bytes)) refl
         let z2 = first-zero 1 (tooShort bytes) _ (z1 .1) in
         ap (λ (b : Bool). cond b 0 5) (z2 .0)
     by (suc n) e = refl
+
+-- bytes that are accepted are not more than the longest frame's
+pub accepted-size : (channel : ℕ) (bytes : List ℕ) → first (refusals channel bytes) ≡ 0 → length bytes ≤ longestFrame
+unfolding numbered
+accepted-size channel bytes none =
+    ltb-false longestFrame (length bytes) (neither (odd (length bytes)) _ (not-refused (refusals channel bytes) refl none 3) .1)

@@ -1,15 +1,11 @@
 -- The statement of `encode` from the number that the order gives.
-use Prim.Native.Nat.{ℕ, suc, _≤_}
+use Prim.Native.Nat.{ℕ, suc}
 use mathlib.Core.Path.{_≡_, refl, sym, ap, ap₂, _∙_}
 use mathlib.Core.List.{List}
 use native.Mathlib.Omega.{arith}
-use borrow.Author.Tests.{ltb-false}
 use lib.ListN.{length}
-use Rattle.numbers.proofs.Truth.{neither}
 use Rattle.refusal.specs.Refusal.{first, numbered}
-use Rattle.refusal.proofs.FirstLaws.{Past, past-list, not-refused, if-accepted, if-refused, first-in-front}
-use Rattle.division.specs.Bits.{odd}
-use Rattle.header.specs.Layout.{longestFrame}
+use Rattle.refusal.proofs.FirstLaws.{Past, past-list, if-accepted, if-refused, first-in-front}
 use Rattle.lent_bytes.specs.Over.{over}
 use Rattle.frame.specs.declared.Reading.{Reading}
 use Rattle.frame.specs.Read as read
@@ -19,12 +15,6 @@ use Rattle.wire.specs.declared.Encoding.the-variants.{Encoded, NotAFrame
 use Rattle.wire.specs.Stream.{stream}
 use Rattle.wire.specs.Packing.{packed}
 use Rattle.wire.specs.Encode.{Told, told, ownRefusals, refusals, refusal, rule, encoded, EncodeSays}
-
--- bytes that are accepted are not more than the longest frame's
-pub accepted-size : (channel : ℕ) (bytes : List ℕ) → first (read.refusals channel bytes) ≡ 0 → length bytes ≤ longestFrame
-unfolding numbered
-accepted-size channel bytes none =
-    ltb-false longestFrame (length bytes) (neither (odd (length bytes)) _ (not-refused (read.refusals channel bytes) refl none 3) .1)
 
 module _ (channel : ℕ) (bytes : List ℕ) (start : ℕ) (output : List ℕ) where
   -- the statement, by its parts

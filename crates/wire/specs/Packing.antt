@@ -4,7 +4,8 @@ use mathlib.Core.Bool.{Bool}
 use mathlib.Core.List.{List, _++_}
 use lib.ListN.{length, replicate}
 use Rattle.division.specs.Bits.{bytesOf}
-use Rattle.wire.specs.Stream.{low}
+use Rattle.header.specs.Layout.{longestFrame}
+use Rattle.wire.specs.Stream.{low, longestStart}
 
 -- How many bytes so many bits take: one for each eight, and one more where some are left.
 abbrev pub packedSize : ℕ → ℕ
@@ -16,3 +17,7 @@ spareBits count = 8 * packedSize count - count
 
 unfoldable pub packed : List Bool → List ℕ
 packed l = bytesOf (packedSize (length l)) (l ++ replicate (spareBits (length l)) low)
+
+-- How many bytes the longest stream takes: "For n bytes and t start bits that is t + 10n + 3 bits".
+abbrev pub mostPacked : ℕ
+mostPacked = packedSize (longestStart + 10 * longestFrame + 3)

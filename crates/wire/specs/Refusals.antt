@@ -1,19 +1,11 @@
 -- The conditions behind the refusals of encoding that are not reading's, each alone (document 02, C-11).
-use Prim.Native.Nat.{ℕ, _+_, _*_}
+use Prim.Native.Nat.{ℕ}
 use mathlib.Core.Bool.{Bool, _||_}
 use mathlib.Core.List.{List}
 use lib.Dec.{ltb}
 use lib.ListN.{length}
-use Rattle.header.specs.Layout.{longestFrame}
-use Rattle.wire.specs.Stream.{stream}
+use Rattle.wire.specs.Stream.{shortestStart, longestStart, stream}
 use Rattle.wire.specs.Packing.{packedSize}
-
--- "1 to 15 low bits".
-abbrev pub shortestStart : ℕ
-shortestStart = 1
-
-abbrev pub longestStart : ℕ
-longestStart = 15
 
 -- 24: "start length not 1 to 15".
 abbrev pub notAStartLength : ℕ → Bool
@@ -22,7 +14,3 @@ notAStartLength start = ltb start shortestStart || ltb longestStart start
 -- 25: "packed output too short".
 abbrev pub outputTooShort : ℕ → List ℕ → List ℕ → Bool
 outputTooShort start bytes output = ltb (length output) (packedSize (length (stream start bytes)))
-
--- How many bytes the longest stream takes: "for n bytes and t start bits that is t + 10n + 3 bits".
-abbrev pub mostPacked : ℕ
-mostPacked = packedSize (longestStart + 10 * longestFrame + 3)

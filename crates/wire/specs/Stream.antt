@@ -16,6 +16,13 @@ unfoldable pub coded : List ℕ → List Bool
 coded [] = []
 coded (byte ∷ bytes) = high ∷ low ∷ (bits 8 byte ++ coded bytes)
 
--- "a transmission start sequence of .. low bits", "one high frame start bit", the bytes, "at the end a low and a high bit".
+-- "a transmission start sequence of 1 to 15 low bits".
+abbrev pub shortestStart : ℕ
+shortestStart = 1
+
+abbrev pub longestStart : ℕ
+longestStart = 15
+
+-- These low bits, as many as the start length says, "one high frame start bit", the bytes, "at the end a low and a high bit".
 unfoldable pub stream : ℕ → List ℕ → List Bool
 stream start bytes = replicate start low ++ (high ∷ (coded bytes ++ (low ∷ high ∷ [])))

@@ -4,7 +4,8 @@
 mod packing;
 
 ghost use mathlib.Core.Path.{_≡_};
-ghost use Rattle.wire.specs.Refusals.{notAStartLength, mostPacked};
+ghost use Rattle.wire.specs.Packing.{mostPacked};
+ghost use Rattle.wire.specs.Refusals.{notAStartLength};
 ghost use Rattle.wire.specs.Encode.{told, EncodeSays};
 use frame::Reading;
 

@@ -3,10 +3,9 @@ ghost use mathlib.Core.Path.{_≡_};
 ghost use Prim.Native.Nat.{_<_, _≤_};
 ghost use lib.ListN.{length, getD};
 ghost use Rattle.header.specs.Layout.{longestFrame};
-ghost use Rattle.wire.specs.Stream.{stream};
+ghost use Rattle.wire.specs.Stream.{longestStart, stream};
 ghost use Rattle.wire.specs.Packing.{packed, packedSize};
 ghost use Rattle.wire.specs.Pending.{tens, Filled};
-ghost use Rattle.wire.specs.Refusals.{longestStart};
 
 // "before each byte a high and a low bit", with eight places for the byte.
 const BYTE_START: u32 = 0b10_0000_0000;

@@ -1,28 +1,28 @@
 -- The claims about the answers, from the statement alone.
 use Prim.Native.Nat.{ℕ, zero, suc, _<_, _≤_}
 use mathlib.Core.Path.{_≡_, refl, sym, ap, _∙_}
-use mathlib.Core.Bool.{Bool, true, false, cond, _&&_}
-use mathlib.Core.List.{List, [], _∷_, List·Memᴰ, List·Memᴰ·head, List·Memᴰ·tail}
-use mathlib.Core.Logic.{_⊎_, inl, inr}
+use mathlib.Core.Bool.{Bool, true, false, cond}
+use mathlib.Core.List.{List, [], _∷_}
 use native.Mathlib.Omega.{arith}
 use borrow.Author.Tests.{ltb-true, ltb-false, ne-eqb}
 use lib.Dec.{eqb, ltb}
 use lib.ListN.{length}
-use Rattle.numbers.proofs.Truth.{both-true, neither}
-use Rattle.refusal.specs.Refusal.{_when_, first, numbers, numbered}
-use Rattle.refusal.proofs.FirstLaws.{first-in-order, told-in-order, if-accepted, if-refused, first-in-front, first-past}
+use Rattle.numbers.proofs.Truth.{neither}
+use Rattle.refusal.specs.Refusal.{_when_, first, numbered}
+use Rattle.refusal.proofs.FirstLaws.{told-in-order, if-accepted, if-refused, first-in-front, first-past, below, first-below}
 use Rattle.header.specs.Layout.{longestFrame}
 use Rattle.frame.specs.Read as read
 use Rattle.frame.proofs.AnswerLaws.{number-at-most}
+use Rattle.frame.proofs.ReadLaws.{accepted-size}
 use Rattle.frame_claims.proofs.Answers.{readingBy, reading-by}
 use Rattle.wire.specs.declared.Encoding.{Encoding}
 use Rattle.wire.specs.declared.Encoding.the-variants as encoding
-use Rattle.wire.specs.Stream.{stream}
-use Rattle.wire.specs.Packing.{packedSize}
-use Rattle.wire.specs.Refusals.{shortestStart, longestStart, notAStartLength, outputTooShort, mostPacked}
+use Rattle.wire.specs.Stream.{shortestStart, longestStart, stream}
+use Rattle.wire.specs.Packing.{packedSize, mostPacked}
+use Rattle.wire.specs.Refusals.{notAStartLength, outputTooShort}
 use Rattle.wire.specs.Encode.{Told, told, ownRefusals, refusals, refusal, rule, EncodeSays}
 use Rattle.wire.proofs.PackingLaws.{length-stream}
-use Rattle.wire.proofs.EncodeLaws.{accepted-size, not-a-frame, past-reading}
+use Rattle.wire.proofs.EncodeLaws.{not-a-frame, past-reading}
 use Rattle.wire_claims.specs.Answers.{EncodeOne, EncodeInOrder, EncodeRefused, EncodeAsRead, RoomForAll}
 
 -- ---- the number
@@ -102,27 +102,6 @@ encode-as-read channel bytes start before after r h reading says refused =
 
 -- ---- room
 
--- all of these numbers are below m
-unfoldable below : ℕ → List ℕ → Bool
-below m [] = true
-below m (n ∷ l) = ltb n m && below m l
-
-listed-below : (m n : ℕ) (l : List ℕ) → below m l ≡ true → List·Memᴰ n l → n < m
-unfolding below
-listed-below m n (k ∷ l) h (List·Memᴰ·head e) =
-    let small = ltb-true k m (both-true (ltb k m) (below m l) h .0) in
-    omega (arith, e)
-listed-below m n (k ∷ l) h (List·Memᴰ·tail t) = listed-below m n l (both-true (ltb k m) (below m l) h .1) t
-
--- no number of reading's is 25
-not-read : (channel : ℕ) (bytes : List ℕ) → first (read.refusals channel bytes) ≡ 25 → ⊥
-unfolding numbered numbers below
-not-read channel bytes e = by (first-in-order (read.refusals channel bytes) refl .listed)
-  where
-    by : (first (read.refusals channel bytes) ≡ 0) ⊎ List·Memᴰ (first (read.refusals channel bytes)) (numbers (read.refusals channel bytes)) → ⊥
-    by (inl z) = omega arith
-    by (inr m) = let small = listed-below 9 _ (numbers (read.refusals channel bytes)) refl m in omega arith
-
 -- of the entry's own two, 25 says that the other does not hold
 own-25 : (a b : Bool) → first (24 when a ∷ 25 when b ∷ []) ≡ 25 → (a ≡ false) × (b ≡ true)
 unfolding first
@@ -139,6 +118,7 @@ too-short bytes start output size e =
     omega (arith, length-stream start bytes, most, short)
 
 pub room-for-all : RoomForAll
+unfolding below
 room-for-all channel bytes start before after r h e = by (first (read.refusals channel bytes)) refl
   where
     by : (n : ℕ) → first (read.refusals channel bytes) ≡ n → length before < mostPacked
@@ -146,8 +126,6 @@ room-for-all channel bytes start before after r h e = by (first (read.refusals c
         too-short bytes start before (accepted-size channel bytes none)
         (sym (first-past (past-reading channel bytes start before none)) ∙ sym (told-number channel bytes start before r h) ∙ e)
     by (suc n) some =
-        absurd
-        (not-read channel bytes
-        (sym (first-in-front (read.refusals channel bytes) (ownRefusals bytes start before) (λ z. omega arith))
-        ∙ sym (told-number channel bytes start before r h)
-        ∙ e))
+        let small = first-below 8 (read.refusals channel bytes) refl in
+        let same = first-in-front (read.refusals channel bytes) (ownRefusals bytes start before) (λ z. omega arith) in
+        absurd (omega (arith, small, same, told-number channel bytes start before r h, e))

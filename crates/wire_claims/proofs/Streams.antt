@@ -23,9 +23,9 @@ use Rattle.frame.specs.Read.{headerRead, payloadRead}
 use Rattle.frame_claims.proofs.Exact.{frame-of, frame-none}
 use Rattle.wire.specs.declared.Encoding.{Encoding}
 use Rattle.wire.specs.declared.Encoding.the-variants.{Encoded}
-use Rattle.wire.specs.Stream.{low, high, coded, stream}
+use Rattle.wire.specs.Stream.{low, high, coded, shortestStart, longestStart, stream}
 use Rattle.wire.specs.Packing.{packedSize, spareBits, packed}
-use Rattle.wire.specs.Refusals.{shortestStart, longestStart, notAStartLength, outputTooShort}
+use Rattle.wire.specs.Refusals.{notAStartLength, outputTooShort}
 use Rattle.wire.specs.Encode.{Told, told, ownRefusals, refusals, refusal}
 use Rattle.wire.proofs.PackingLaws.{length-stream, length-packed}
 use Rattle.wire.proofs.EncodeLaws.{past-reading, encode-accepted}

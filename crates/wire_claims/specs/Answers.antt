@@ -11,7 +11,7 @@ use Rattle.frame.specs.Read as read
 use Rattle.frame.specs.Read.{ReadSays}
 use Rattle.wire.specs.declared.Encoding.{Encoding}
 use Rattle.wire.specs.declared.Encoding.the-variants.{NotAFrame}
-use Rattle.wire.specs.Refusals.{mostPacked}
+use Rattle.wire.specs.Packing.{mostPacked}
 use Rattle.wire.specs.Encode.{told, refusals, EncodeSays}
 
 -- Any two results that the statement allows are equal.

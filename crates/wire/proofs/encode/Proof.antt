@@ -16,14 +16,14 @@ use Rattle.header.specs.Layout.{longestFrame}
 use Rattle.frame.specs.declared.Reading.{Reading}
 use Rattle.frame.specs.Read as read
 use Rattle.frame.proofs.AnswerLaws.{not-accepted}
+use Rattle.frame.proofs.ReadLaws.{accepted-size}
 use Rattle.wire.specs.declared.Encoding.{Encoding}
 use Rattle.wire.specs.declared.Encoding.the-variants.{NotAStartLength, OutputTooShort}
-use Rattle.wire.specs.Stream.{stream}
+use Rattle.wire.specs.Stream.{shortestStart, longestStart, stream}
 use Rattle.wire.specs.Packing.{packedSize, packed}
-use Rattle.wire.specs.Refusals.{shortestStart, longestStart}
 use Rattle.wire.specs.Encode.{told, ownRefusals, refusals, refusal, EncodeSays}
 use Rattle.wire.proofs.PackingLaws.{length-stream, length-packed}
-use Rattle.wire.proofs.EncodeLaws.{accepted-size, not-a-frame, past-reading, encode-refused, encode-accepted}
+use Rattle.wire.proofs.EncodeLaws.{not-a-frame, past-reading, encode-refused, encode-accepted}
 use Rattle.wire.proofs.encode.Statement.{statement}
 use Rattle.wire.proofs.encode.Tie as tie
 

@@ -5,7 +5,7 @@ use Prim.Native.Nat.{ℕ}
 use native.Mathlib.Omega.{arith}
 use lib.ListN.{replicate, length-replicate}
 use denote.Ref.{now}
-use Rattle.wire.specs.Refusals.{mostPacked}
+use Rattle.wire.specs.Packing.{mostPacked}
 use Rattle.wire_claims.proofs.Answers.{room-for-all}
 use Rattle.wire_claims.proofs.number_with_room.Statement.{statement}
 use Rattle.wire_claims.proofs.number_with_room.Tie as tie
