@@ -8,8 +8,9 @@ use crate::settings::{Settings, DECODING_CORRECTION, DELAY_A, DELAY_B, RATE_LIMI
 use crate::slot::SlotStatus;
 use crate::sync_list::SyncList;
 
-/// The highest observed time and action point, in microticks.
-pub const LATEST: u32 = 1_280_000;
+/// 02 C-12: the highest observed time and action point, in microticks. The counter may run on from an even cycle through
+/// the odd one behind it; no cycle length is taken off, as a deviation is a difference.
+pub const LATEST: u32 = 2_560_000;
 
 /// The default one is all zeros, which isn't sound.
 #[derive(Clone, Debug, Default, PartialEq, Eq)]
@@ -149,18 +150,20 @@ mod tests {
     use super::*;
     use crate::clock_scene::{status_with, wide_settings};
     use crate::settings::{HIGHEST_CORRECTION, HIGHEST_DELAY};
+    use crate::sync_list::DEVIATIONS;
 
-    /// 01: range -1,280,510 to 1,280,000.
+    /// 02, C-12: lowest -2,560,510, highest 2,560,000.
     #[test]
     fn the_ends_of_deviations() {
         let none = wide_settings(false);
         let longest = none.with_field(DECODING_CORRECTION, HIGHEST_CORRECTION).with_field(DELAY_B, HIGHEST_DELAY);
         let sync = status_with(none, Channel::B, 7, 0, 0b01000).status();
-        for (settings, observed, action_point, end) in [(longest, 0, LATEST, -1_280_510), (none, LATEST, 0, 1_280_000)]
+        for (settings, observed, action_point, end) in [(longest, 0, LATEST, -2_560_510), (none, LATEST, 0, 2_560_000)]
         {
             let open = load(settings).and_then(|state| state.opened(0)).expect("settings and cycle are in range");
             let (after, deviation) = open.measured(&sync, Times { observed, action_point }).expect("both are in range");
             assert_eq!((deviation, after.is_sound()), (end, true));
         }
+        assert_eq!(DEVIATIONS, -2_560_510..=2_560_000);
     }
 }

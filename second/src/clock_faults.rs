@@ -126,13 +126,23 @@ fn other_cycle(random: &mut Random, cycle: u8) -> u8 {
     (cycle + step) % (HIGHEST_CYCLE + 1)
 }
 
+/// 002 B.4.15: the longest cycle, in microticks, after which a counter that runs on is in the second one. Before 02 C-12
+/// no time was later.
+pub const LONGEST_CYCLE: u32 = 1_280_000;
+
 pub fn fair_times(random: &mut Random) -> Times {
     let action_point = random.between(1_000, LATEST as usize - 1_000) as u32;
     match random.below(8) {
         0 => Times { observed: random.pick(&[0, 1, LATEST]), action_point: random.pick(&[0, LATEST - 1, LATEST]) },
         1 => Times { observed: random.between(0, LATEST as usize) as u32, action_point },
+        2 => Times { observed: between_cycles(random), action_point: between_cycles(random) },
         _ => Times { observed: action_point + random.below(1_000) as u32 - 300, action_point },
     }
+}
+
+/// A time at the end of the first cycle or at the beginning of the second.
+fn between_cycles(random: &mut Random) -> u32 {
+    LONGEST_CYCLE + random.below(1_000) as u32 - 500
 }
 
 pub fn wrong_times(random: &mut Random) -> Times {
@@ -201,5 +211,21 @@ mod tests {
             let sound = fair_clock(&mut random);
             assert!(!unsound(&mut random, sound).state().is_sound());
         }
+    }
+
+    /// 02 C-12: both numbers up to 2,560,000 and on both sides of 1,280,000; one that is wrong beside one that is right.
+    #[test]
+    fn times_on_both_sides_of_the_limit() {
+        let mut random = Random::from_seed(12);
+        let fair: Vec<Times> = (0..2_000).map(|_| fair_times(&mut random)).collect();
+        let wrong: Vec<Times> = (0..2_000).map(|_| wrong_times(&mut random)).collect();
+        let both = |times: &Times| [times.observed, times.action_point];
+        assert!(fair.iter().flat_map(both).all(|time| time <= 2_560_000));
+        for number in [0, 1] {
+            assert!(fair.iter().any(|times| both(times)[number] == 2_560_000));
+            assert!(fair.iter().any(|times| both(times)[number] > 1_280_000 && both(times)[1 - number] <= 1_280_000));
+            assert!(wrong.iter().any(|times| both(times)[number] == 2_560_001 && both(times)[1 - number] <= 2_560_000));
+        }
+        assert!(wrong.iter().all(|times| times.observed.max(times.action_point) > 2_560_000));
     }
 }

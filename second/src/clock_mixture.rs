@@ -2,7 +2,7 @@
 
 use crate::channel::Channel;
 use crate::clock::Times;
-use crate::clock_faults::{fair_controls, fair_times, unsound, wrong_controls, wrong_times};
+use crate::clock_faults::{fair_controls, fair_times, unsound, wrong_controls, wrong_times, LONGEST_CYCLE};
 use crate::clock_numbers::ClockNumbers;
 use crate::clock_scene::{fair_clock, settings_with_static, some_ids, sync_status, HIGHEST_SYNC_ID};
 use crate::draft::fair_cycle;
@@ -16,10 +16,13 @@ use crate::sync_list::PLACES;
 
 const MOST_CYCLES: usize = 5;
 
-/// The IDs of the sync frames around a node, and how much later they come in an odd cycle than in the even one.
+/// The sync frames around a node, and its counter.
 struct Cluster {
     ids: Vec<u16>,
+    /// How much later they come in an odd cycle than in the even one.
     drift: i32,
+    /// What the counter shows where an odd cycle begins: 0, or with one that runs on (02 C-12) the length of the even one.
+    odd_begins: i32,
 }
 
 pub fn episode(random: &mut Random) -> Vec<Command> {
@@ -37,7 +40,15 @@ fn any_cluster(random: &mut Random) -> Cluster {
     let count = if random.one_in(4) { random.between(5, PLACES + 1) } else { random.between(1, 4) };
     let mut ids = some_ids(random, count);
     ids.iter_mut().for_each(|id| *id = (*id - 1) % HIGHEST_SYNC_ID + 1);
-    Cluster { ids, drift: random.between(0, 60) as i32 - 30 }
+    Cluster { ids, drift: random.between(0, 60) as i32 - 30, odd_begins: odd_begins(random) }
+}
+
+fn odd_begins(random: &mut Random) -> i32 {
+    match random.below(4) {
+        0 => LONGEST_CYCLE as i32,
+        1 => random.between(60_000, LONGEST_CYCLE as usize) as i32,
+        _ => 0,
+    }
 }
 
 /// A load as a rule.
@@ -101,7 +112,7 @@ fn one_frame(random: &mut Random, cluster: &Cluster, id: u16, channel: Channel, 
     let times = match random.below(24) {
         0 => wrong_times(random),
         1 | 2 => fair_times(random),
-        _ => drifted(random, cluster.drift, cycle),
+        _ => drifted(random, cluster, cycle),
     };
     commands.push(Command::Measure(times));
     if random.one_in(20) {
@@ -123,10 +134,11 @@ fn slot_of_frame(random: &mut Random, channel: Channel, id: u16, cycle: u8) -> V
     commands
 }
 
-/// Odd cycles differ from even ones by the drift.
-fn drifted(random: &mut Random, drift: i32, cycle: u8) -> Times {
-    let action_point = random.between(2_000, 60_000) as i32;
-    let late = random.between(0, 40) as i32 + 250 + i32::from(cycle % 2) * drift;
+/// Deviations in odd cycles differ from those in even ones by the drift, wherever the counter stands.
+fn drifted(random: &mut Random, cluster: &Cluster, cycle: u8) -> Times {
+    let odd = i32::from(cycle % 2);
+    let action_point = random.between(2_000, 60_000) as i32 + odd * cluster.odd_begins;
+    let late = random.between(0, 40) as i32 + 250 + odd * cluster.drift;
     Times { observed: (action_point + late) as u32, action_point: action_point as u32 }
 }
 
@@ -143,17 +155,21 @@ fn noise(random: &mut Random) -> Command {
 #[cfg(test)]
 mod tests {
     use super::*;
-    use crate::replay::Replay;
+    use crate::replay::{Outcome, Replay};
 
-    /// Most commands are accepted, terms of every kind are found, and refusals turn up as well.
-    #[test]
-    fn most_clock_commands_are_accepted() {
+    fn some_outcomes() -> Vec<Outcome> {
         let mut random = Random::from_seed(21);
         let mut script = Vec::new();
         for _ in 0..300 {
             episode(&mut random).iter().for_each(|command| command.append_to(&mut script));
         }
-        let lines: Vec<String> = Replay::of(&script).map(|outcome| outcome.line()).collect();
+        Replay::of(&script).collect()
+    }
+
+    /// Most commands are accepted, terms of every kind are found, and refusals turn up as well.
+    #[test]
+    fn most_clock_commands_are_accepted() {
+        let lines: Vec<String> = some_outcomes().iter().map(Outcome::line).collect();
         let count = |start: &str| lines.iter().filter(|line| line.starts_with(start)).count();
         for entry in ["open", "measure", "close"] {
             assert!(2 * count(&format!("{entry} 0")) > count(entry), "{entry}");
@@ -162,5 +178,21 @@ mod tests {
             assert!(count(refused) > 0, "{refused}");
         }
         assert_eq!(count("script error"), 0);
+    }
+
+    /// 02 C-12: both times in the second cycle of the counter, or one of them.
+    #[test]
+    fn some_counters_run_on() {
+        let accepted = |outcome: Outcome| match outcome {
+            Outcome::Answered(Command::Measure(times), answer) if answer.refusal().is_none() => Some(times),
+            _ => None,
+        };
+        let accepted: Vec<Times> = some_outcomes().into_iter().filter_map(accepted).collect();
+        let count = |second| {
+            let in_second =
+                |times: &&Times| [times.observed, times.action_point].map(|time| time > 1_280_000) == second;
+            accepted.iter().filter(in_second).count()
+        };
+        assert!(count([true, true]) > 100 && count([false, true]) > 8 && count([true, false]) > 8);
     }
 }

@@ -17,6 +17,7 @@ mod slots;
 mod soundness;
 mod stays;
 mod streams;
+mod two_cycles;
 mod unlooked;
 
 use std::collections::BTreeMap;
@@ -152,6 +153,7 @@ fn required() -> Vec<String> {
     all.extend(cycles::required());
     all.extend(measuring::required());
     all.extend(closing::required());
+    all.extend(two_cycles::required());
     all.extend(ends::required());
     all
 }

@@ -11,8 +11,8 @@ use crate::settings::{HIGHEST_CORRECTION, HIGHEST_DELAY};
 /// The most different IDs that a list has places for, the highest value of field 4.
 pub const PLACES: usize = 15;
 
-/// 01 "Clock": the range of a deviation, in microticks: the latest action point with nothing observed until then and the
-/// longest correction and delay, and the latest time with none of them.
+/// 01 "Clock" with 02 C-12: the range of a deviation, in microticks: the latest action point with nothing observed until
+/// then and the longest correction and delay, and the latest time with none of them.
 pub const DEVIATIONS: RangeInclusive<i32> = -((LATEST + HIGHEST_CORRECTION + HIGHEST_DELAY) as i32)..=LATEST as i32;
 
 /// One ID with its deviations. Only a list that was put can have an ID without any.

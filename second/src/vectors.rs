@@ -68,8 +68,8 @@ mod tests {
     #[test]
     fn the_listed_cases_hold_and_reach_everything() {
         let vectors = build().unwrap();
-        assert!(vectors.script.len() < 2_800_000);
-        assert!(Replay::of(&vectors.script).count() < 70_000);
+        assert!(vectors.script.len() < 2_900_000);
+        assert!(Replay::of(&vectors.script).count() < 71_000);
         assert!(vectors.text.len() < 3_400_000);
     }
 }

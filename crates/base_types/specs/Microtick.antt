@@ -5,11 +5,11 @@ use lib.Dec.{ltb}
 use lib.IntN.{ℤ, pos, negℤ}
 use lib.Signed.{leZ}
 
--- The highest time that is accepted.
+-- The highest time that is accepted (02, C-12): the counter may run over two cycles.
 abbrev pub timeLimit : ℕ
-timeLimit = 1280000
+timeLimit = 2560000
 
--- 14: "observed time or action point (both unsigned) above 1,280,000 microticks", of one of the two.
+-- 14: "observed time or action point (both unsigned) above" the limit, of one of the two.
 abbrev pub aboveTimeLimit : ℕ → Bool
 aboveTimeLimit time = ltb timeLimit time
 
@@ -17,7 +17,7 @@ aboveTimeLimit time = ltb timeLimit time
 abbrev pub mostTakenOff : ℕ
 mostTakenOff = 255 + 255
 
--- "range -1,280,510 to 1,280,000": it follows from the highest time.
+-- Both ends of the "range": they follow from the highest time.
 abbrev pub lowestDeviation : ℤ
 lowestDeviation = negℤ (pos (timeLimit + mostTakenOff))
 

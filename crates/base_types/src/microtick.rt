@@ -1,4 +1,4 @@
-// Microticks: times, which are counted from the start of a cycle, and signed numbers, which are deviations and terms.
+// Microticks: times by a counter that may run over two cycles, and signed numbers, which are deviations and terms.
 ghost use mathlib.Core.Path.{_≡_};
 ghost use lib.IntN.{pos, natAbs};
 ghost use lib.Signed.{ltZ};
@@ -10,7 +10,7 @@ pub struct SignedMicrotick(pub i32);
 
 impl Microtick {
     // The latest time that is accepted.
-    pub const LIMIT: u32 = 1_280_000;
+    pub const LIMIT: u32 = 2_560_000;
 
     // Returns the constant, which no contract can name, and so holds it to its rule (DECISIONS 108).
     fn limit() -> u32

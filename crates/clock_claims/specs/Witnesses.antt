@@ -1,5 +1,5 @@
 -- What the witnesses show: the claims, of what the code answers.
-use Prim.Native.Nat.{ℕ, _+_, _*_, _/_, _%_, _^_, _<_}
+use Prim.Native.Nat.{ℕ, _+_, _*_, _/_, _%_, _^_, _<_, _≤_}
 use mathlib.Core.Path.{_≡_}
 use mathlib.Core.Bool.{true, cond}
 use mathlib.Core.List.{List, map}
@@ -73,10 +73,10 @@ firstIn number = number / 8 % span
 abbrev pub secondIn : ℕ → ℕ
 secondIn number = number / (8 * span) % span
 
--- Every kind with any two such times has its number, which a u64 holds: `played` is not about a few calls.
+-- Every kind with any two times, up to one above the limit, has its number, which a u64 holds: `played` is not about a few calls.
 abbrev pub EveryCall : Type 0
 EveryCall =
-    (kind first second : ℕ) → kind < 8 → first < span → second < span
+    (kind first second : ℕ) → kind < 8 → first ≤ timeLimit + 1 → second ≤ timeLimit + 1
     → (number : ℕ) × (number < 2 ^ 64) × (number % 8 ≡ kind) × (firstIn number ≡ first) × (secondIn number ≡ second)
 
 -- -1, 0, 1, and 2, which is no control.

@@ -58,8 +58,9 @@ pub struct FrameMeasured {
     pub clock: Clock,
 }
 
-// Measures the frame that a slot kept, by the time at which it was observed and the action point at which it was expected. The tests
-// come in 01's order; with a refusal the state is the one handed in.
+// Measures the frame that a slot kept, by the time at which it was observed and the action point at which it was expected, both by one
+// counter. It may run on through an odd cycle: only their difference counts. The tests come in 01's order; with a refusal the state is
+// the one handed in.
 pub fn measure(
     clock: Clock,
     status: Status,

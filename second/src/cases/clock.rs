@@ -14,6 +14,7 @@ mod pairs;
 mod refusals;
 mod soundness;
 mod sync_limits;
+mod two_cycles;
 mod unlooked;
 
 use crate::plan::Plan;
@@ -36,6 +37,7 @@ pub fn add(plan: &mut Plan, random: &mut Random) {
     damping::add(plan);
     controls::add(plan);
     pairs::add(plan);
+    two_cycles::add(plan, random);
     refusals::add(plan, random);
     soundness::add(plan, random);
     unlooked::add(plan, random);

@@ -20,6 +20,7 @@ impl Reached {
         self.add_term("rate", &closing.rate, closing.differences.len(), closing.rate_term);
         self.add_of_ids(closing);
         self.add_seen(closing.cycle);
+        self.add_far(closing);
     }
 
     fn add_flags(&mut self, closing: &Closing) {

@@ -9,6 +9,9 @@ use crate::settings::{self, EXTERNAL_OFFSET_UNIT, EXTERNAL_RATE_UNIT, HIGHEST_UN
 
 const UNIT: i8 = HIGHEST_UNIT as i8;
 
+/// So far beyond a limit a term can be made by one deviation, with the highest limit and a stored rate as well.
+const FAR: i32 = 2_500_000;
+
 /// A term, what its limit leaves of it, and whether that is flagged.
 struct Limited {
     limit: i32,
@@ -39,8 +42,8 @@ fn around(limit: i32) -> Vec<Limited> {
         (-limit, -limit, false),
         (limit + 1, limit, true),
         (-limit - 1, -limit, true),
-        (limit + 900_000, limit, true),
-        (-limit - 900_000, -limit, true),
+        (limit + FAR, limit, true),
+        (-limit - FAR, -limit, true),
     ];
     cases.map(with).into()
 }

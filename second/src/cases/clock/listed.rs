@@ -33,7 +33,8 @@ pub fn add(plan: &mut Plan, random: &mut Random) {
     }
 }
 
-fn rows(channel: Channel, values: &[i32]) -> Vec<RowNumbers> {
+/// One row for each value, of IDs from 1 on.
+pub(super) fn rows(channel: Channel, values: &[i32]) -> Vec<RowNumbers> {
     let numbered = values.iter().enumerate();
     numbered.map(|(place, value)| row_on(place as u16 + 1, channel, *value)).collect()
 }
