@@ -8,7 +8,8 @@ use crate::marks::Mark;
 use crate::random::Random;
 use crate::scene::fair_settings;
 use crate::settings::{
-    self, Settings, FIELDS, MOST_STATIC_SLOTS, OFFSET_LIMIT, RATE_LIMIT, STATIC_SLOTS, STATIC_WORDS, SYNC_ID_LIMIT,
+    self, Settings, DECODING_CORRECTION, DELAY_A, DELAY_B, FIELDS, MOST_STATIC_SLOTS, OFFSET_LIMIT, RATE_LIMIT,
+    STATIC_SLOTS, STATIC_WORDS, SYNC_ID_LIMIT,
 };
 use crate::status_numbers::{HeaderNumbers, StatusNumbers};
 use crate::sync_list::{DEVIATIONS, PLACES};
@@ -26,6 +27,11 @@ pub fn wide_settings(sends_sync: bool) -> Settings {
         settings = settings.with_field(field, settings::ends(field).1);
     }
     settings
+}
+
+/// Such a sheet of a node that sends no sync, with this decoding correction and these delays on A and B.
+pub fn late_settings(correction: u32, [on_a, on_b]: [u32; 2]) -> Settings {
+    wide_settings(false).with_field(DECODING_CORRECTION, correction).with_field(DELAY_A, on_a).with_field(DELAY_B, on_b)
 }
 
 /// What the last closed cycle was when a cycle was opened.

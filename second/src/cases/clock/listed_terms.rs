@@ -4,12 +4,12 @@ use super::listed::{CORRECTIONS, TIMES_OF_01};
 use crate::channel::Channel::{self, A, B};
 use crate::clock::Times;
 use crate::clock_history::{close, load, measure, open, NO_TIME};
-use crate::clock_scene::{sync_status, wide_settings};
+use crate::clock_scene::{late_settings, sync_status, wide_settings};
 use crate::history;
 use crate::plan::{Expected, Plan};
 use crate::random::Random;
 use crate::script::Command;
-use crate::settings::{Settings, DECODING_CORRECTION, DELAY_A, DELAY_B, OFFSET_LIMIT, RATE_LIMIT, SYNC_ID_LIMIT};
+use crate::settings::{Settings, OFFSET_LIMIT, RATE_LIMIT, SYNC_ID_LIMIT};
 
 /// An ID that is measured on a channel, and its deviation.
 type Measured = (u16, Channel, i64);
@@ -127,8 +127,7 @@ fn add_beside_the_limit(plan: &mut Plan, random: &mut Random) {
 
 fn add_decoding_corrections(plan: &mut Plan, random: &mut Random, channel: Channel) {
     for (correction, delay, deviation) in &CORRECTIONS[2..] {
-        let settings = wide_settings(false).with_field(DELAY_A, *delay).with_field(DELAY_B, *delay);
-        load(plan, settings.with_field(DECODING_CORRECTION, *correction));
+        load(plan, late_settings(*correction, [*delay, *delay]));
         open(plan, 0);
         measure(plan, &sync_status(random, channel, 3, 0), TIMES_OF_01, (*deviation).into());
     }

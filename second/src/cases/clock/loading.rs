@@ -4,14 +4,14 @@ use super::listed::TIMES_OF_01;
 use crate::channel::Channel;
 use crate::clock_history::{close, load, measure, open, put, refuse_all, show};
 use crate::clock_numbers::ClockNumbers;
-use crate::clock_scene::{fair_clock, open_at, row_on, sync_status, wide_settings};
+use crate::clock_scene::{fair_clock, late_settings, open_at, row_on, sync_status, wide_settings};
 use crate::draft::fair_cycle;
 use crate::faults::wrong_value;
 use crate::plan::{Expected, Plan};
 use crate::random::Random;
 use crate::scene::fair_settings;
 use crate::script::Command;
-use crate::settings::{self, Settings, DELAY_A, DELAY_B, FIELDS};
+use crate::settings::{self, Settings, FIELDS};
 
 pub fn add(plan: &mut Plan, random: &mut Random) {
     let zeros = ClockNumbers::default();
@@ -62,7 +62,7 @@ fn add_refused(plan: &mut Plan, random: &mut Random, settings: Settings, field: 
 
 /// A sheet with a delay of 40 on both channels.
 fn delayed() -> Settings {
-    wide_settings(false).with_field(DELAY_A, 40).with_field(DELAY_B, 40)
+    late_settings(0, [40, 40])
 }
 
 /// New delays while old deviations are listed: no cycle is open any more, and the same ID can be measured again.

@@ -5,7 +5,9 @@ use crate::clock::{Times, LATEST};
 use crate::clock_faults::Unfit;
 use crate::clock_history::{load, measure, open, put, refuse, refuse_measure, show};
 use crate::clock_numbers::ClockNumbers;
-use crate::clock_scene::{fair_clock, open_at, row_on, settings_with_static, status_with, sync_status, wide_settings};
+use crate::clock_scene::{
+    fair_clock, late_settings, open_at, row_on, settings_with_static, status_with, sync_status, wide_settings,
+};
 use crate::frame::{HIGHEST_CYCLE, HIGHEST_ID};
 use crate::history;
 use crate::plan::{Expected, Plan};
@@ -23,8 +25,8 @@ const TIMES: [u32; 7] = [0, 1, LATEST - 1, LATEST, LATEST + 1, 0x8000_0000, u32:
 
 pub fn add(plan: &mut Plan, random: &mut Random) {
     for channel in Channel::BOTH {
-        add_times(plan, random, channel, late_settings(0, 0));
-        add_times(plan, random, channel, late_settings(HIGHEST_CORRECTION, HIGHEST_DELAY));
+        add_times(plan, random, channel, late_settings(0, [0, 0]));
+        add_times(plan, random, channel, late_settings(HIGHEST_CORRECTION, [HIGHEST_DELAY, HIGHEST_DELAY]));
         for unfit in Unfit::ALL {
             add_unfit(plan, random, channel, unfit);
         }
@@ -33,11 +35,6 @@ pub fn add(plan: &mut Plan, random: &mut Random) {
         add_arrived(plan, random, channel);
     }
     add_unsound_statuses(plan, random);
-}
-
-fn late_settings(correction: u32, delay: u32) -> Settings {
-    let delayed = wide_settings(false).with_field(DELAY_A, delay).with_field(DELAY_B, delay);
-    delayed.with_field(DECODING_CORRECTION, correction)
 }
 
 /// Every time at the ends of its range and beyond, with no delay at all and with the longest ones.
@@ -79,7 +76,7 @@ fn add_unfit(plan: &mut Plan, random: &mut Random, channel: Channel, unfit: Unfi
         Unfit::NotStatic => [4, 5, 6, 7].map(|flags| status_with(dynamic, channel, 300, 6, flags)).into(),
     };
     for status in statuses {
-        let held = open_at(late_settings(20, 20), 6, Default::default());
+        let held = open_at(late_settings(20, [20, 20]), 6, Default::default());
         put(plan, &held);
         refuse_measure(plan, &held, &status, Refusal::NoSyncFrame);
     }
@@ -93,8 +90,7 @@ fn add_fit_by_status(plan: &mut Plan, random: &mut Random, channel: Channel) {
 
 /// The clock state's correction and delay on this channel, and neither the other channel's nor any of the status's.
 fn add_other_delays(plan: &mut Plan, random: &mut Random, channel: Channel) {
-    let settings = wide_settings(false).with_field(DECODING_CORRECTION, 11);
-    let settings = settings.with_field(DELAY_A, 30).with_field(DELAY_B, 50);
+    let settings = late_settings(11, [30, 50]);
     let deviation = match channel {
         Channel::A => 59,
         Channel::B => 39,
@@ -113,9 +109,9 @@ fn add_other_delays(plan: &mut Plan, random: &mut Random, channel: Channel) {
 
 /// Slots that were really opened, in which frames arrive among other things.
 fn add_arrived(plan: &mut Plan, random: &mut Random, channel: Channel) {
-    load(plan, late_settings(0, 0));
+    load(plan, late_settings(0, [0, 0]));
     open(plan, 33);
-    let mut held = open_at(late_settings(0, 0), 33, Default::default());
+    let mut held = open_at(late_settings(0, [0, 0]), 33, Default::default());
     for place in 0..6 {
         let slot = Scene { slot: 40 + place, cycle: 33, ..Scene::fair(random, channel, Kind::Static) };
         let settings = settings_with_static(random, slot.slot);

@@ -9,13 +9,13 @@ use crate::channel::Channel::{self, A, B};
 use crate::clock::Times;
 use crate::clock_history::{close, load, measure, open, put, refuse, show};
 use crate::clock_numbers::{ClockNumbers, RowNumbers};
-use crate::clock_scene::{closed, list, open_at, row, sync_status, wide_settings};
+use crate::clock_scene::{closed, late_settings, list, open_at, row, sync_status};
 use crate::history;
 use crate::plan::Plan;
 use crate::random::Random;
 use crate::refusal::Refusal;
 use crate::script::Command;
-use crate::settings::{Settings, DECODING_CORRECTION, DELAY_A, DELAY_B, DRIFT_DAMPING};
+use crate::settings::{Settings, DRIFT_DAMPING};
 
 /// The ends of the range of deviations.
 const LOWEST: i32 = -2_560_510;
@@ -42,10 +42,6 @@ pub fn add(plan: &mut Plan, random: &mut Random) {
     add_half_sums(plan, random);
     add_own_zero(plan, random);
     far_apart::add(plan);
-}
-
-fn late_settings(correction: u32, [on_a, on_b]: [u32; 2]) -> Settings {
-    wide_settings(false).with_field(DECODING_CORRECTION, correction).with_field(DELAY_A, on_a).with_field(DELAY_B, on_b)
 }
 
 fn times([observed, action_point]: [u32; 2]) -> Times {
