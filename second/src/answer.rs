@@ -5,8 +5,11 @@ use crate::clock::{self, ClockState, Times};
 use crate::clock_numbers::ClockNumbers;
 use crate::closing::{Closing, Controls};
 use crate::frame::{self, Fields};
+use crate::listening::{self, Call};
+use crate::reader::{self, Reader};
+use crate::reader_numbers::ReaderNumbers;
 use crate::refusal::Refusal;
-use crate::script::{Command, Encode, OnChannel, Opening, Write};
+use crate::script::{Command, Encode, Listen, OnChannel, Opening, Write, MEMORY};
 use crate::settings::Settings;
 use crate::slot::{self, Event, SlotStatus};
 use crate::status_numbers::StatusNumbers;
@@ -15,11 +18,24 @@ use crate::wire;
 /// What every byte of a lent output holds before the call.
 pub const UNTOUCHED: u8 = 0xA5;
 
-/// The two states that are held from command to command, all zeros at the start.
-#[derive(Clone, Debug, Default)]
+/// The three states that are held from command to command, all zeros at the start, and the reader's memory.
+#[derive(Clone, Debug)]
 pub struct Held {
     pub clock: ClockState,
     pub status: SlotStatus,
+    pub reader: Reader,
+    pub memory: Vec<u8>,
+}
+
+impl Default for Held {
+    fn default() -> Held {
+        Held {
+            clock: ClockState::default(),
+            status: SlotStatus::default(),
+            reader: Reader::default(),
+            memory: lent(MEMORY),
+        }
+    }
 }
 
 #[derive(Debug)]
@@ -40,6 +56,11 @@ pub enum Answer {
     Closed(Result<Box<Closing>, Refusal>),
     ClockPut,
     Shown(Box<ClockNumbers>, StatusNumbers),
+    ReaderOpened(Result<(), Refusal>),
+    Heard(Vec<Call>),
+    ReaderPut,
+    /// With the whole memory.
+    ReaderShown(ReaderNumbers, Vec<u8>),
 }
 
 impl Answer {
@@ -62,6 +83,10 @@ impl Answer {
             Command::CloseCycle(controls) => answer_to_close(*controls, &mut held.clock),
             Command::PutClock(numbers) => answer_to_put_clock(numbers, &mut held.clock),
             Command::Show => Answer::Shown(Box::new(ClockNumbers::of(&held.clock)), StatusNumbers::of(&held.status)),
+            Command::OpenReader(channel) => answer_to_open_reader(*channel, &mut held.reader),
+            Command::Listen(listen) => answer_to_listen(listen, held),
+            Command::PutReader(numbers) => answer_to_put_reader(numbers, &mut held.reader),
+            Command::ShowReader => Answer::ReaderShown(ReaderNumbers::of(&held.reader), held.memory.clone()),
         }
     }
 
@@ -74,7 +99,11 @@ impl Answer {
             Answer::Loaded(answer, _) | Answer::CycleOpened(answer) => answer.err(),
             Answer::Measured(answer) => answer.err(),
             Answer::Closed(answer) => answer.as_ref().err().copied(),
+            Answer::ReaderOpened(answer) => answer.err(),
+            // What refuses one call refuses the first, as no call makes a sound reader unsound.
+            Answer::Heard(calls) => calls[0].answer.err(),
             Answer::StatusPut | Answer::ClockPut | Answer::Shown(..) => None,
+            Answer::ReaderPut | Answer::ReaderShown(..) => None,
         }
     }
 
@@ -103,6 +132,10 @@ impl Answer {
             Answer::Closed(Err(_)) => format!("close {number} 0 0 0 0 0 0 0"),
             Answer::ClockPut => "clock put".to_string(),
             Answer::Shown(clock, status) => format!("{}\n{}", clock.line(), status.line()),
+            Answer::ReaderOpened(_) => format!("reader {number}"),
+            Answer::Heard(calls) => calls.iter().map(Call::line).collect::<Vec<String>>().join("\n"),
+            Answer::ReaderPut => "reader put".to_string(),
+            Answer::ReaderShown(numbers, memory) => format!("{} {}", numbers.line(), hex(memory)),
         }
     }
 }
@@ -183,12 +216,28 @@ fn answer_to_put_clock(numbers: &ClockNumbers, held: &mut ClockState) -> Answer 
     Answer::ClockPut
 }
 
-fn field_numbers(fields: &Fields) -> String {
+fn answer_to_open_reader(channel: u8, held: &mut Reader) -> Answer {
+    let answer = reader::open(channel);
+    // No state was handed in, as with the opening of a slot.
+    *held = answer.unwrap_or_default();
+    Answer::ReaderOpened(answer.map(|_| ()))
+}
+
+fn answer_to_listen(listen: &Listen, held: &mut Held) -> Answer {
+    Answer::Heard(listening::calls(&mut held.reader, &listen.samples(), &mut held.memory[..listen.room]))
+}
+
+fn answer_to_put_reader(numbers: &ReaderNumbers, held: &mut Reader) -> Answer {
+    *held = numbers.reader();
+    Answer::ReaderPut
+}
+
+pub fn field_numbers(fields: &Fields) -> String {
     let indicators = fields.indicators.sent().map(|bit| u8::from(bit).to_string()).join(" ");
     format!("{indicators} {} {} {} {}", fields.id, fields.words, fields.header_checksum, fields.cycle)
 }
 
-fn hex(bytes: &[u8]) -> String {
+pub fn hex(bytes: &[u8]) -> String {
     if bytes.is_empty() {
         return "-".to_string();
     }

@@ -13,6 +13,7 @@ mod listed_slots;
 mod listed_streams;
 mod misses;
 mod openings;
+mod reader;
 mod reading;
 mod round_trips;
 mod sizes;
@@ -37,6 +38,7 @@ const SEED: u64 = 0x01_0019_0262;
 const RANDOM_COMMANDS: usize = 5000;
 const SLOT_STRETCHES: usize = 200;
 const CLOCK_STRETCHES: usize = 60;
+const READER_STRETCHES: usize = 8;
 
 pub fn all() -> Plan {
     let mut random = Random::from_seed(SEED);
@@ -66,6 +68,9 @@ pub fn all() -> Plan {
     // Behind everything about slots: the first of these finds no clock loaded.
     clock::add(&mut plan, &mut random);
     add_clock_mixture(&mut plan, &mut random);
+    // Behind everything about the clock: the first of these finds no reader opened.
+    reader::add(&mut plan, &mut random);
+    add_reader_mixture(&mut plan, &mut random);
     plan
 }
 
@@ -84,6 +89,12 @@ fn add_slot_mixture(plan: &mut Plan, random: &mut Random) {
 fn add_clock_mixture(plan: &mut Plan, random: &mut Random) {
     for _ in 0..CLOCK_STRETCHES {
         add_anything(plan, mixture::clock_stretch(random));
+    }
+}
+
+fn add_reader_mixture(plan: &mut Plan, random: &mut Random) {
+    for _ in 0..READER_STRETCHES {
+        add_anything(plan, mixture::reader_stretch(random));
     }
 }
 

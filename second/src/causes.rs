@@ -28,7 +28,10 @@ impl Command {
             Command::OpenCycle(cycle) => held.clock.opening_causes(*cycle),
             Command::Measure(times) => held.clock.measuring_causes(&held.status, *times),
             Command::CloseCycle(controls) => held.clock.closing_causes(*controls),
-            Command::PutStatus(_) | Command::PutClock(_) | Command::Show => Vec::new(),
+            Command::OpenReader(channel) => holding([(Refusal::Channel, Channel::from_number(*channel).is_err())]),
+            Command::Listen(listen) => held.reader.listening_causes(listen.room),
+            Command::PutStatus(_) | Command::PutClock(_) | Command::PutReader(_) => Vec::new(),
+            Command::Show | Command::ShowReader => Vec::new(),
         }
     }
 }

@@ -2,6 +2,7 @@
 
 mod clock;
 mod gate;
+mod reader;
 mod sizes;
 
 use crate::channel::Channel;
@@ -13,6 +14,7 @@ use crate::status_numbers::{HeaderNumbers, StatusNumbers};
 
 pub use clock::{CLOSED, OPEN};
 pub use gate::one_of_each;
+pub use reader::{PHASE, READER_CHANNEL, REALIGNS, VOTED};
 
 pub struct Small {
     /// None where the script plays to its end.
@@ -55,7 +57,7 @@ const SETTINGS: Settings = Settings { fields: [1, 2, 3, 4, 5, 6, 7, 8, 9, 0, 11]
 const OPENING: Opening = Opening { settings: SETTINGS, channel: 0, slot: 1, cycle: 0 };
 
 /// Bytes that begin no command: the letters in lower case, the capitals that have no command, and some others.
-pub const UNKNOWN_LETTERS: &[u8] = b"frwpesabxtlomckdGHIJNQUVYZ\x00\n ?\x80\xFF";
+pub const UNKNOWN_LETTERS: &[u8] = b"frwpesabxtlomckdhyvzGIJNQU\x00\n ?\x80\xFF";
 
 /// A status in which the frame above is kept.
 const STATUS: StatusNumbers = StatusNumbers {
@@ -82,12 +84,16 @@ pub fn all() -> Vec<Small> {
     all.extend(before_bytes());
     all.extend(ends_inside());
     all.extend(clock::ends_inside());
+    all.extend(reader::ends_inside());
     all.extend(sizes::too_large());
+    all.extend(reader::too_large());
     all.extend(sizes::at_the_limit());
     all.extend(wrong_bytes());
     all.extend(clock::wrong_switches());
+    all.extend(reader::wrong_bytes());
     all.extend(no_errors());
     all.extend(clock::no_errors());
+    all.extend(reader::no_errors());
     all.extend(after_good_ones());
     all.extend(one_of_each().into_iter().map(|(_, small)| small));
     all
@@ -108,7 +114,7 @@ fn shown(status: &str) -> String {
     format!("{ZERO_CLOCK}{status}")
 }
 
-/// One whole command of each letter with its line; behind them both states of all zeros are held again.
+/// One whole command of each letter with its line; behind them the states of all zeros are held again.
 fn good_ones() -> Vec<(Vec<u8>, String)> {
     let write = Write { channel: 0, flags: 0b00100, id: 1, cycle: 0, payload: vec![], room: 9 };
     let line = |line: &str| line.to_string();
@@ -132,6 +138,7 @@ fn good_ones() -> Vec<(Vec<u8>, String)> {
         (Command::OpenSlot(Opening { channel: 2, ..OPENING }), line("slot 1 0\n")),
         (Command::Show, shown(ZERO_STATUS)),
     ]);
+    commands.extend(reader::good_ones());
     commands.into_iter().map(|(command, line)| (bytes_of(&command), line)).collect()
 }
 
@@ -241,7 +248,7 @@ fn no_errors() -> Vec<Small> {
 
 fn after_good_ones() -> Vec<Small> {
     let [low, high] = (LIMIT as u16 + 1).to_le_bytes();
-    let broken: [(Cause, &[u8]); 21] = [
+    let broken: [(Cause, &[u8]); 28] = [
         (Cause::UnknownLetter, b"?"),
         (Cause::EndInside, b"F"),
         (Cause::EndInside, b"R\x00\x08"),
@@ -263,6 +270,13 @@ fn after_good_ones() -> Vec<Small> {
         (Cause::EndInside, b"M\x01\x00\x00\x00\x02\x00\x00"),
         (Cause::EndInside, b"C\x01"),
         (Cause::EndInside, b"K\x01\x00\x00\x00"),
+        (Cause::EndInside, b"H"),
+        (Cause::EndInside, b"Y\x0E\x01\x02\x00\x01\x08\x00"),
+        (Cause::MemoryAbove, b"Y\x0F\x01\x00\x00"),
+        (Cause::RunsAbove, b"Y\x0E\x01\xB9\x0B"),
+        (Cause::EndInside, b"V\x00\x00\x00\x00\x00"),
+        (Cause::WrongSwitch, b"V\x02"),
+        (Cause::PhaseAbove, b"V\x00\x00\x00\x00\x00\x00\x00\x08"),
     ];
     let good = good_ones();
     let mut all: Vec<Small> = broken.iter().map(|(cause, broken)| after(&good, *cause, broken)).collect();
@@ -293,11 +307,11 @@ mod tests {
         }
     }
 
-    /// Six different ones, and what stands behind the error would be played without it.
+    /// Ten different ones, and what stands behind the error would be played without it.
     #[test]
     fn one_script_for_each_cause() {
         let causes: BTreeSet<Option<Cause>> = one_of_each().iter().map(|(_, small)| small.cause).collect();
-        assert_eq!((causes.len(), causes.contains(&None)), (6, false));
+        assert_eq!((causes.len(), causes.contains(&None)), (10, false));
         for (name, small) in one_of_each() {
             let behind = small.script.ends_with(b"D");
             assert_eq!(behind, small.cause != Some(Cause::EndInside), "{name}");

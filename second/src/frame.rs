@@ -103,7 +103,8 @@ impl Fields {
         Fields { header_checksum: self.right_header_checksum(), ..self }
     }
 
-    fn frame_size(&self) -> usize {
+    /// The bytes of a frame with these words.
+    pub fn frame_size(&self) -> usize {
         SMALLEST_FRAME + 2 * usize::from(self.words)
     }
 }
@@ -124,7 +125,8 @@ pub fn read(channel: u8, bytes: &[u8]) -> Result<Fields, Refusal> {
     Ok(header_in(bytes))
 }
 
-fn header_in(bytes: &[u8]) -> Fields {
+/// What the first five bytes say, right or wrong.
+pub fn header_in(bytes: &[u8]) -> Fields {
     Fields::from_bits(&bits::of_bytes(&bytes[..HEADER_BYTES]))
 }
 

@@ -1,9 +1,10 @@
-//! A second program for FlexRay frames, slots and clock: works out what a replay script must give, and makes such scripts
-//! and inputs for the bench program.
+//! A second program for FlexRay frames, slots, clock and wire: works out what a replay script must give, and makes such
+//! scripts and inputs for the bench program.
 
 mod answer;
 mod bench;
 mod bench_inputs;
+mod bit_clock;
 mod bits;
 mod cases;
 mod causes;
@@ -17,6 +18,7 @@ mod clock_numbers;
 mod clock_scene;
 mod closing;
 mod correction;
+mod decoder;
 mod draft;
 mod errors;
 mod faults;
@@ -24,20 +26,26 @@ mod frame;
 mod history;
 mod listed_frames;
 mod listed_streams;
+mod listening;
 mod marks;
 mod mixture;
 mod plan;
 mod random;
 mod reached;
+mod reader;
+mod reader_mixture;
+mod reader_numbers;
 mod reason;
 mod refusal;
 mod replay;
+mod samples;
 mod scene;
 mod script;
 mod settings;
 mod slot;
 mod slot_mixture;
 mod status_numbers;
+mod streams;
 mod sync_list;
 mod vectors;
 mod wire;

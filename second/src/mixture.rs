@@ -9,6 +9,7 @@ use crate::draft::{fair_words, foreign_channel, Draft};
 use crate::faults::{bench_of, encode_of, faulty_bench, faulty_encode, faulty_read, faulty_write, some_faults};
 use crate::frame::{Indicators, MOST_WORDS};
 use crate::random::Random;
+use crate::reader_mixture;
 use crate::refusal::{Refusal, ENCODE_ORDER, READ_ORDER, WRITE_ORDER};
 use crate::script::{Command, OnChannel, LIMIT};
 use crate::slot_mixture;
@@ -24,12 +25,13 @@ pub fn script(seed: u64, count: usize) -> Vec<u8> {
     script
 }
 
-/// What happens to one slot, or in some cycles.
+/// What happens to one slot, in some cycles, or on the wire.
 fn stretch(random: &mut Random) -> Vec<Command> {
-    if random.coin() {
-        return clock_stretch(random);
+    match random.below(5) {
+        0 | 1 => clock_stretch(random),
+        2 | 3 => slot_stretch(random),
+        _ => reader_stretch(random),
     }
-    slot_stretch(random)
 }
 
 /// What happens to one slot, with as many frame commands strewn in, which leave the slot alone.
@@ -51,6 +53,20 @@ pub fn clock_stretch(random: &mut Random) -> Vec<Command> {
         commands.push(command);
         if random.one_in(16) {
             commands.push(frame_command(random));
+        }
+    }
+    commands
+}
+
+/// Some readers of the wire, with a few commands strewn in that leave them alone.
+pub fn reader_stretch(random: &mut Random) -> Vec<Command> {
+    let mut commands = Vec::new();
+    for _ in 0..random.between(1, 4) {
+        for command in reader_mixture::episode(random) {
+            commands.push(command);
+            if random.one_in(8) {
+                commands.push(frame_command(random));
+            }
         }
     }
     commands

@@ -2,6 +2,8 @@
 
 use crate::answer::Answer;
 use crate::clock_numbers::ClockNumbers;
+use crate::listening::Call;
+use crate::reader_numbers::ReaderNumbers;
 use crate::refusal::Refusal;
 use crate::script::Command;
 use crate::status_numbers::StatusNumbers;
@@ -19,6 +21,10 @@ pub enum Expected {
     Status(StatusNumbers),
     /// A showing of this clock state, whatever the status.
     Clock(Box<ClockNumbers>),
+    /// A showing of this reader, whatever the memory.
+    Reader(ReaderNumbers),
+    /// What an accepted piece of samples tells: 0 for a frame, and otherwise an error's number.
+    Told(Vec<u8>),
 }
 
 impl Expected {
@@ -40,8 +46,18 @@ impl Expected {
             Expected::Line(line) => answer.line() == *line,
             Expected::Status(numbers) => matches!(answer, Answer::Shown(_, shown) if shown == numbers),
             Expected::Clock(numbers) => matches!(answer, Answer::Shown(shown, _) if shown == numbers),
+            Expected::Reader(numbers) => matches!(answer, Answer::ReaderShown(shown, _) if shown == numbers),
+            Expected::Told(numbers) => {
+                matches!(answer, Answer::Heard(calls) if told_by(calls) == Some(numbers.clone()))
+            }
         }
     }
+}
+
+/// None with a refusal.
+fn told_by(calls: &[Call]) -> Option<Vec<u8>> {
+    calls[0].answer.ok()?;
+    Some(calls.iter().filter(|call| call.tells()).map(Call::number).collect())
 }
 
 #[derive(Clone, Debug)]

@@ -13,6 +13,8 @@ mod ends;
 mod frames;
 mod given;
 mod measuring;
+mod reader;
+mod reader_soundness;
 mod slots;
 mod soundness;
 mod stays;
@@ -28,9 +30,11 @@ use crate::clock_numbers::ClockNumbers;
 use crate::clock_scene::Last;
 use crate::history::Sort;
 use crate::plan::Plan;
+use crate::reader_numbers::ReaderNumbers;
 use crate::replay::Outcome;
 use crate::script::{Cause, Command, OnChannel};
 use crate::status_numbers::StatusNumbers;
+use reader::Behind;
 use stays::{Origin, Subject};
 
 #[derive(Default)]
@@ -42,22 +46,25 @@ pub struct Reached {
     answers: BTreeMap<(char, u8), usize>,
     /// How often small scripts ended by each cause, and by none.
     ends: BTreeMap<Option<Cause>, usize>,
-    /// Both states as the next command finds them.
+    /// The states as the next command finds them.
     held: Held,
     /// For each subject what counts as soon as its state is shown, and not if another command changes it before.
-    unshown: [Vec<String>; 2],
+    unshown: [Vec<String>; 3],
     /// The last frame that was read, and the last one that was written.
     read: Option<OnChannel>,
     written: Option<Vec<u8>>,
     status_from: Origin,
     clock_from: Origin,
+    reader_from: Origin,
     /// What happened since the slot was opened.
     history: Vec<Sort>,
     /// The numbers from which the states that are held were made.
     put_status: Option<StatusNumbers>,
     put_clock: Option<ClockNumbers>,
+    put_reader: Option<ReaderNumbers>,
     /// What the last closed cycle was when an odd cycle was opened, until another one is.
     odd_opened: Option<Last>,
+    behind: Behind,
 }
 
 impl Reached {
@@ -73,9 +80,10 @@ impl Reached {
         demanded.filter(|reach| !self.counts.contains_key(reach)).collect()
     }
 
-    /// How often each entry gave each number, one line per entry, and how the small scripts ended.
+    /// How often each entry gave each number, one line per entry, and how the small scripts ended. What readers told while
+    /// they listened stands behind `y`.
     pub fn summary(&self) -> String {
-        let mut lines: Vec<String> = "FRWPESABXTLOMCKD".chars().map(|letter| self.summary_of(letter)).collect();
+        let mut lines: Vec<String> = "FRWPESABXTLOMCKDHYyVZ".chars().map(|letter| self.summary_of(letter)).collect();
         lines.push(self.summary_of_ends());
         lines.join("\n")
     }
@@ -127,14 +135,22 @@ impl Reached {
             Command::Measure(times) => self.add_measure(*times, answer),
             Command::CloseCycle(_) => self.add_close(answer),
             Command::PutClock(numbers) => self.add_put_clock(numbers),
-            Command::Show => self.add_shown(),
+            Command::Show => {
+                self.add_shown(&[Subject::Status, Subject::Clock]);
+                self.add_shown_status();
+            }
+            Command::OpenReader(_) => self.add_open_reader(answer),
+            Command::Listen(listen) => self.add_listen(listen, answer),
+            Command::PutReader(numbers) => self.add_put_reader(numbers),
+            Command::ShowReader => self.add_shown_reader(),
         }
         Answer::to(command, &mut self.held);
     }
 
-    fn add_shown(&mut self) {
-        mem::take(&mut self.unshown).into_iter().flatten().for_each(|reach| self.add(reach));
-        self.add_shown_status();
+    fn add_shown(&mut self, subjects: &[Subject]) {
+        for subject in subjects {
+            mem::take(&mut self.unshown[*subject as usize]).into_iter().for_each(|reach| self.add(reach));
+        }
     }
 }
 
@@ -154,6 +170,8 @@ fn required() -> Vec<String> {
     all.extend(measuring::required());
     all.extend(closing::required());
     all.extend(two_cycles::required());
+    all.extend(reader::required());
+    all.extend(reader_soundness::required());
     all.extend(ends::required());
     all
 }

@@ -27,6 +27,14 @@ pub enum Refusal {
     NotSound = 23,
     StartLength = 24,
     PackedOutput = 25,
+    // 30 to 35 are told by a reader of the wire while it goes on.
+    LongStart = 30,
+    LongFrameStart = 31,
+    ByteStartLow = 32,
+    ByteStartHigh = 33,
+    EndHigh = 34,
+    EndLow = 35,
+    Memory = 36,
 }
 
 /// 01 "Refusal numbers", order of a read.
@@ -57,6 +65,23 @@ pub const ENCODE_ORDER: [Refusal; 10] = {
     let [a, b, c, d, e, f, g, h] = READ_ORDER;
     [a, b, c, d, e, f, g, h, Refusal::StartLength, Refusal::PackedOutput]
 };
+
+/// 02 C-13, order of listening.
+pub const LISTEN_ORDER: [Refusal; 2] = [Refusal::NotSound, Refusal::Memory];
+
+/// 02 C-13: what a reader tells as an error, of starts and ends and of the bytes that it heard.
+pub const TOLD: [Refusal; 10] = [
+    Refusal::HeaderChecksum,
+    Refusal::IdRead,
+    Refusal::StartupWithoutSync,
+    Refusal::FrameChecksum,
+    Refusal::LongStart,
+    Refusal::LongFrameStart,
+    Refusal::ByteStartLow,
+    Refusal::ByteStartHigh,
+    Refusal::EndHigh,
+    Refusal::EndLow,
+];
 
 /// 01 "Refusal numbers", order of opening a slot.
 pub const OPEN_SLOT_ORDER: [Refusal; 4] = [Refusal::Setting, Refusal::Channel, Refusal::IdGiven, Refusal::Cycle];
@@ -107,5 +132,7 @@ mod tests {
         assert_eq!(OPEN_CYCLE_ORDER.map(Refusal::number), [23, 11, 19]);
         assert_eq!(MEASURE_ORDER.map(Refusal::number), [23, 18, 14, 20, 22, 16, 15]);
         assert_eq!(CLOSE_CYCLE_ORDER.map(Refusal::number), [23, 18, 21]);
+        assert_eq!(LISTEN_ORDER.map(Refusal::number), [23, 36]);
+        assert_eq!(TOLD.map(Refusal::number), [4, 6, 7, 8, 30, 31, 32, 33, 34, 35]);
     }
 }

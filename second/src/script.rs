@@ -6,6 +6,8 @@ use crate::clock::Times;
 use crate::clock_numbers::ClockNumbers;
 use crate::closing::Controls;
 use crate::frame::{self, Fields, Indicators, ToWrite};
+use crate::reader_numbers::ReaderNumbers;
+use crate::samples;
 use crate::settings::Settings;
 use crate::status_numbers::StatusNumbers;
 use crate::wire;
@@ -15,14 +17,25 @@ pub use layout::Rest;
 /// The highest size or room that a script may name.
 pub const LIMIT: usize = 600;
 
+/// The bytes of memory that are held for the reader of the wire, which is the highest room of `Y`.
+pub const MEMORY: usize = 270;
+
+/// The most runs of `Y`, and the most samples that they may make.
+pub const MOST_RUNS: usize = 3_000;
+pub const MOST_SAMPLES: usize = 24_000;
+
 /// What ends a run before the script's end, in the words and the order of REPLAY.md.
 #[derive(Clone, Copy, Debug, PartialEq, Eq, PartialOrd, Ord)]
 pub enum Cause {
     UnknownLetter,
     SizeAbove,
     RoomAbove,
+    MemoryAbove,
+    RunsAbove,
+    SamplesAbove,
     WrongSwitch,
     ReasonAbove,
+    PhaseAbove,
     EndInside,
 }
 
@@ -93,6 +106,27 @@ pub struct Opening {
     pub cycle: u8,
 }
 
+/// A sample, and how many there are of it.
+#[derive(Clone, Copy, Debug, Default, PartialEq, Eq)]
+pub struct Run {
+    pub sample: u8,
+    pub times: u8,
+}
+
+/// A piece of samples, and how much of the memory is lent.
+#[derive(Clone, Debug, Default, PartialEq, Eq)]
+pub struct Listen {
+    pub room: usize,
+    pub runs: Vec<Run>,
+}
+
+impl Listen {
+    /// One run behind the other.
+    pub fn samples(&self) -> Vec<u8> {
+        self.runs.iter().flat_map(|run| vec![run.sample; run.times.into()]).collect()
+    }
+}
+
 #[derive(Clone, Debug, PartialEq, Eq)]
 pub enum Command {
     Checksum(OnChannel),
@@ -112,6 +146,11 @@ pub enum Command {
     CloseCycle(Controls),
     PutClock(Box<ClockNumbers>),
     Show,
+    /// On the channel of this number, which may be any.
+    OpenReader(u8),
+    Listen(Listen),
+    PutReader(ReaderNumbers),
+    ShowReader,
 }
 
 impl Command {
@@ -130,6 +169,11 @@ impl Command {
 
     pub fn put_clock(numbers: &ClockNumbers) -> Command {
         Command::PutClock(Box::new(*numbers))
+    }
+
+    /// A piece of samples in as few runs as can be, with all of the memory lent.
+    pub fn listen(samples: &[u8]) -> Command {
+        Command::Listen(Listen { room: MEMORY, runs: samples::runs(samples) })
     }
 
     /// The command of a letter, with nothing in it.
@@ -151,6 +195,10 @@ impl Command {
             'C' => Command::CloseCycle(Controls::NONE),
             'K' => Command::PutClock(Box::default()),
             'D' => Command::Show,
+            'H' => Command::OpenReader(0),
+            'Y' => Command::Listen(Listen::default()),
+            'V' => Command::PutReader(ReaderNumbers::default()),
+            'Z' => Command::ShowReader,
             _ => return None,
         };
         Some(command)
@@ -174,6 +222,10 @@ impl Command {
             Command::CloseCycle(_) => 'C',
             Command::PutClock(_) => 'K',
             Command::Show => 'D',
+            Command::OpenReader(_) => 'H',
+            Command::Listen(_) => 'Y',
+            Command::PutReader(_) => 'V',
+            Command::ShowReader => 'Z',
         }
     }
 }
@@ -214,6 +266,32 @@ mod tests {
         assert_eq!(rest.take_command(), Ok(Command::read(255, &[])));
         assert_eq!(rest.take_command(), Ok(Command::Bench(vec![1, 7, 8])));
         assert!(rest.is_empty());
+    }
+
+    #[test]
+    fn reader_commands_by_hand() {
+        let runs = vec![Run { sample: 0xFF, times: 3 }, Run { sample: 0, times: 0 }, Run { sample: 2, times: 1 }];
+        let listen = Listen { room: 0x10E, runs };
+        assert_eq!(listen.samples(), [0xFF, 0xFF, 0xFF, 2]);
+        let numbers = ReaderNumbers {
+            channel: Channel::B,
+            samples: 0xF5,
+            seen: 4,
+            voted: false,
+            counter: 8,
+            realigns: true,
+            timer: 88,
+            phase: 7,
+            number: 0x11,
+            value: 0x12,
+            count: 0x1413,
+            since: 0x18171615,
+        };
+        assert_both_ways(b"H\x09", &Command::OpenReader(9));
+        assert_both_ways(b"Y\x0E\x01\x03\x00\xFF\x03\x00\x00\x02\x01", &Command::Listen(listen));
+        let put = b"V\x01\xF5\x04\x00\x08\x01\x58\x07\x11\x12\x13\x14\x15\x16\x17\x18";
+        assert_both_ways(put, &Command::PutReader(numbers));
+        assert_both_ways(b"Z", &Command::ShowReader);
     }
 
     /// Fields 1 to 11 as 0x04030201, 0x08070605 and so on, and the switch.

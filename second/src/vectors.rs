@@ -68,8 +68,18 @@ mod tests {
     #[test]
     fn the_listed_cases_hold_and_reach_everything() {
         let vectors = build().unwrap();
-        assert!(vectors.script.len() < 2_900_000);
-        assert!(Replay::of(&vectors.script).count() < 71_000);
-        assert!(vectors.text.len() < 3_400_000);
+        assert!(vectors.script.len() < 3_400_000);
+        assert!(Replay::of(&vectors.script).count() < 82_000);
+        assert!(vectors.text.len() < 4_400_000);
+        assert!(samples(&vectors.script) < 3_000_000);
+    }
+
+    /// All that readers are given to hear.
+    fn samples(script: &[u8]) -> usize {
+        let of_command = |outcome| match outcome {
+            Outcome::Answered(Command::Listen(listen), _) => listen.samples().len(),
+            _ => 0,
+        };
+        Replay::of(script).map(of_command).sum()
     }
 }

@@ -32,7 +32,7 @@ pub fn encode_causes(channel: u8, start: u8, frame: &[u8], room: usize) -> Vec<R
 }
 
 /// Start bits low, the frame start bit high, a high and a low bit before each byte, at the end a low and a high bit.
-fn stream(start: u8, frame: &[u8]) -> Vec<bool> {
+pub fn stream(start: u8, frame: &[u8]) -> Vec<bool> {
     let mut row = vec![LOW; start.into()];
     row.push(HIGH);
     for byte in frame {

@@ -21,3 +21,10 @@ itemRoom = sheetSize + 2 + 2 + 4 + listSize + listSize
 -- A line.
 abbrev pub lineRoom : ℕ
 lineRoom = 1300
+
+-- The memory of a reader, and the samples of a piece, with one too many.
+abbrev pub memorySize : ℕ
+memorySize = 270
+
+abbrev pub sampleRoom : ℕ
+sampleRoom = 24001

@@ -8,6 +8,7 @@ use base_types::Cycle;
 use base_types::Slot;
 use frame::Reading;
 use header::Fields;
+use header::Header;
 use libc::STDOUT_FILENO;
 
 // The places of an item of `W`. An item of `F` and of `R` is its channel alone.
@@ -75,6 +76,11 @@ fn put_header(line: &mut [u8; line::ROOM], at: usize, reading: Reading) -> usize
     let Reading::Accepted(header) = reading else {
         return at;
     };
+    put_fields(line, at, header)
+}
+
+// Puts the nine fields.
+pub fn put_fields(line: &mut [u8; line::ROOM], at: usize, header: Header) -> usize {
     let numbers = [
         header.reserved as u64,
         header.preamble as u64,

@@ -1,10 +1,11 @@
 // An item: the bytes behind a letter, up to the first size. It is taken whole before the command is played, so that only the commands
-// that take bytes behind it, which are `A` and those on frames, can meet a script error while they play.
+// that take bytes behind it, which are `A`, `Y` and those on frames, can meet a script error while they play.
 ghost use Prim.Native.Nat.{_+_, _≤_};
 ghost use Rattle.replay.specs.Items.{itemRoom};
 use crate::clock_states;
 use crate::clocks;
 use crate::frames;
+use crate::readers;
 use crate::script;
 use crate::sheet;
 use crate::slots;
@@ -48,6 +49,8 @@ fn size_behind(letter: u8) -> usize
         b'K' => clock_states::SIZE,
         b'S' => slots::SIZE,
         b'T' => statuses::SIZE,
+        b'H' => readers::CHANNEL_SIZE,
+        b'V' => readers::SIZE,
         _ => 0,
     }
 }
@@ -58,6 +61,7 @@ fn is_right(letter: u8, item: Item) -> bool {
         b'L' | b'S' => sheet::is_right(item),
         b'K' => clock_states::is_right(item),
         b'T' => statuses::is_right(item),
+        b'V' => readers::is_right(item),
         _ => true,
     }
 }

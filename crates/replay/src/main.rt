@@ -7,6 +7,8 @@ mod held;
 mod item;
 mod line;
 mod lists;
+mod pieces;
+mod readers;
 mod script;
 mod sheet;
 mod slots;
@@ -39,14 +41,30 @@ fn play_item(letter: u8, item: Item, held: Held) -> Held {
         b'S' | b'B' | b'X' | b'T' => held.with_status(slots::play(letter, item, held.status)),
         b'A' => slots::arrived(held),
         b'D' => show(held),
+        b'H' | b'V' => play_reader(letter, item, held),
+        b'Y' => pieces::listen(held),
+        b'Z' => show_reader(held),
         _ => held.after(false),
     }
+}
+
+// `H` and `V`, which leave the memory as it is.
+fn play_reader(letter: u8, item: Item, held: Held) -> Held {
+    let memory = held.memory;
+    held.with_reader(readers::play(letter, item, held.reader), memory)
 }
 
 // `D`. The clock's line stands before the status's.
 fn show(held: Held) -> Held {
     clock_states::show(held.clock);
     statuses::show(held.status);
+    held.after(true)
+}
+
+// `Z`
+fn show_reader(held: Held) -> Held {
+    let memory = held.memory;
+    readers::show(held.reader, &memory);
     held.after(true)
 }
 

@@ -70,6 +70,24 @@ pub fn take_bytes(space: &mut [u8]) -> Size
     size
 }
 
+// Takes a count of pairs, and as many pairs of bytes into the front of the space. What the space cannot hold is a script error.
+pub fn take_pairs(space: &mut [u8]) -> Size
+    ensures { λ r. ⌜ r .bytes ≤ length (now (space .entry)) ⌝ }
+{
+    let pairs = take_size(space.len() / 2);
+    if pairs.is_script_error {
+        return SCRIPT_ERROR;
+    }
+    let bytes = 2 * pairs.bytes;
+    if !take(&mut space[0..bytes]) {
+        return SCRIPT_ERROR;
+    }
+    Size {
+        is_script_error: false,
+        bytes,
+    }
+}
+
 // The number that two bytes of the script make.
 pub fn number(low: u8, high: u8) -> u16 {
     high as u16 * 256 + low as u16

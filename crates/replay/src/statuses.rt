@@ -68,7 +68,7 @@ pub fn put(item: Item) -> Status {
 }
 
 // The switch of a channel is its number, and `is_right` leaves no other number.
-fn channel_of(switch: u8) -> Channel {
+pub fn channel_of(switch: u8) -> Channel {
     let Named::Is(channel) = Channel::named(switch) else {
         return Channel::A;
     };

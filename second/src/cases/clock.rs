@@ -1,6 +1,6 @@
 //! The listed cases of the clock, subject by subject.
 
-mod between;
+pub(super) mod between;
 mod controls;
 mod cycles;
 mod damping;

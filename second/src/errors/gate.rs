@@ -1,8 +1,9 @@
 //! One script for each kind of script error, and for each command that has a room, played beside the listed cases: good
 //! commands, the error, a good command.
 
+use super::reader::{many_runs, many_samples, PHASE, READER};
 use super::{bytes_of, changed, encode, frame, Small, OPENING, REASON, SENDS_SYNC, SETTINGS, STATUS};
-use crate::script::{Cause, Command, Encode, Write, LIMIT};
+use crate::script::{Cause, Command, Encode, Listen, Write, LIMIT, MEMORY, MOST_RUNS, MOST_SAMPLES};
 
 /// Played before the error.
 fn before() -> Vec<u8> {
@@ -33,17 +34,23 @@ script error at 7
 const BEHIND: Command = Command::Show;
 
 /// With a name for each. But for its fault each command would be good, and the one behind it is.
-pub fn one_of_each() -> [(String, Small); 7] {
+pub fn one_of_each() -> [(String, Small); 11] {
     let room_above = Write { channel: 0, flags: 0b00100, id: 1, cycle: 0, payload: vec![1, 2], room: LIMIT + 1 };
     let encode_above = Encode { room: LIMIT + 1, ..encode() };
+    let listen = |listen| bytes_of(&Command::Listen(listen));
+    let memory_above = Listen { room: MEMORY + 1, ..many_runs(1, 8) };
     let cases = [
-        ("unknown_letter", Cause::UnknownLetter, b"Z".to_vec()),
+        ("unknown_letter", Cause::UnknownLetter, b"Q".to_vec()),
         (&format!("size_above_{LIMIT}")[..], Cause::SizeAbove, bytes_of(&Command::read(0, &[0; LIMIT + 1]))),
         (&format!("room_above_{LIMIT}"), Cause::RoomAbove, bytes_of(&Command::Write(room_above))),
         (&format!("encode_room_above_{LIMIT}"), Cause::RoomAbove, bytes_of(&Command::Encode(encode_above))),
         ("wrong_switch", Cause::WrongSwitch, changed(&Command::Load(SETTINGS), SENDS_SYNC, 2)),
         ("reason_above_5", Cause::ReasonAbove, changed(&Command::PutStatus(STATUS), REASON, 6)),
         ("end_inside", Cause::EndInside, bytes_of(&Command::read(0, &frame()))),
+        (&format!("memory_above_{MEMORY}"), Cause::MemoryAbove, listen(memory_above)),
+        (&format!("runs_above_{MOST_RUNS}"), Cause::RunsAbove, listen(many_runs(MOST_RUNS + 1, 1))),
+        (&format!("samples_above_{MOST_SAMPLES}"), Cause::SamplesAbove, listen(many_samples(MOST_SAMPLES + 1))),
+        ("phase_above_7", Cause::PhaseAbove, changed(&Command::PutReader(READER), PHASE, 8)),
     ];
     cases.map(|(name, cause, error)| (name.to_string(), around(cause, &error)))
 }

@@ -2,11 +2,12 @@
 
 use crate::faults::selections;
 use crate::refusal::{
-    Refusal, CLOSE_CYCLE_ORDER, ENCODE_ORDER, MEASURE_ORDER, OPEN_CYCLE_ORDER, OPEN_SLOT_ORDER, READ_ORDER, WRITE_ORDER,
+    Refusal, CLOSE_CYCLE_ORDER, ENCODE_ORDER, LISTEN_ORDER, MEASURE_ORDER, OPEN_CYCLE_ORDER, OPEN_SLOT_ORDER,
+    READ_ORDER, WRITE_ORDER,
 };
 
 /// By the letter of the entry.
-const ORDERS: [(char, &[Refusal]); 13] = [
+const ORDERS: [(char, &[Refusal]); 15] = [
     ('F', &[Refusal::Channel]),
     ('R', &READ_ORDER),
     ('W', &WRITE_ORDER),
@@ -20,11 +21,13 @@ const ORDERS: [(char, &[Refusal]); 13] = [
     ('O', &OPEN_CYCLE_ORDER),
     ('M', &MEASURE_ORDER),
     ('C', &CLOSE_CYCLE_ORDER),
+    ('H', &[Refusal::Channel]),
+    ('Y', &LISTEN_ORDER),
 ];
 
 /// Letter and number of every answer but that of a showing.
 pub(super) fn answers() -> Vec<(char, u8)> {
-    let mut all = vec![('T', 0), ('K', 0)];
+    let mut all = vec![('T', 0), ('K', 0), ('V', 0)];
     for (letter, order) in ORDERS {
         all.push((letter, 0));
         all.extend(order.iter().map(|refusal| (letter, refusal.number())));
@@ -63,6 +66,8 @@ fn can_stand_together(letter: char, causes: &[Refusal]) -> bool {
         }
         // No number of words makes an odd size or one above the highest.
         'R' | 'P' | 'E' => has(Refusal::WordsAgainstSize) || !has(Refusal::Size),
+        // The memory that is lent has nothing to do with the reader.
+        'Y' => true,
         _ if has(Refusal::NotSound) => causes.len() == 1 && "ABX".contains(letter),
         // An ID that was measured already is listed, so that there is a place for it. Where no cycle is open, no frame's
         // cycle is the open one.

@@ -1,7 +1,7 @@
 //! What small scripts must reach of the ways in which a script can end.
 
 use super::Reached;
-use crate::errors::{CHANNEL, CLOSED, KEPT, OPEN, SENDS_SYNC, UNKNOWN_LETTERS};
+use crate::errors::{CHANNEL, CLOSED, KEPT, OPEN, PHASE, READER_CHANNEL, REALIGNS, SENDS_SYNC, UNKNOWN_LETTERS, VOTED};
 use crate::script::{Broken, Cause};
 
 impl Reached {
@@ -30,8 +30,14 @@ pub(super) fn required() -> Vec<String> {
         "'<F|R|W|A|P|E>' ends by SizeAbove".to_string(),
         "'<W|E>' ends by RoomAbove".to_string(),
         "'T' ends by ReasonAbove".to_string(),
-        // B, X and D have no bytes behind their letter.
-        "'<F|R|W|P|E|S|A|T|L|O|M|C|K>' ends by EndInside".to_string(),
+        // B, X, D and Z have no bytes behind their letter.
+        "'<F|R|W|P|E|S|A|T|L|O|M|C|K|H|Y|V>' ends by EndInside".to_string(),
+        "'Y' ends by <MemoryAbove|RunsAbove|SamplesAbove>".to_string(),
+        // Letter, room (2), runs (2) and all but the last byte of two runs; letter and all but the last byte of a reader.
+        "'Y' ends by EndInside at <0..7>".to_string(),
+        "'V' ends by EndInside at <0..15>".to_string(),
+        format!("'V' ends by WrongSwitch at <{READER_CHANNEL}|{VOTED}|{REALIGNS}>"),
+        format!("'V' ends by PhaseAbove at {PHASE}"),
         // Letter, channel, start, size (2), a frame of 8 bytes and all but the last byte of the room.
         "'E' ends by EndInside at <0..13>".to_string(),
         format!("'<L|S|K|T>' ends by WrongSwitch at {SENDS_SYNC}"),

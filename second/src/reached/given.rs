@@ -11,7 +11,7 @@ use crate::frame::{
     Fields, Indicators, HIGHEST_CYCLE, HIGHEST_ID, LARGEST_FRAME, LARGEST_PAYLOAD, MOST_WORDS, SMALLEST_FRAME,
 };
 use crate::refusal::Refusal;
-use crate::script::{Command, Encode, Opening, Write, LIMIT};
+use crate::script::{Command, Encode, Opening, Write, LIMIT, MEMORY};
 use crate::settings::{self, Settings, FIELDS};
 use crate::sync_list::DEVIATIONS;
 use crate::wire;
@@ -57,6 +57,8 @@ fn parts(command: &Command, answer: &Answer) -> Vec<(String, i64)> {
             of_times(times).chain(found.iter().map(|deviation| ("deviation", (*deviation).into()))).collect()
         }
         (Command::CloseCycle(controls), _) => of_controls(controls).collect(),
+        (Command::OpenReader(channel), _) => vec![("channel", (*channel).into())],
+        (Command::Listen(listen), _) => vec![("room", listen.room as i64), ("runs", listen.runs.len() as i64)],
         _ => Vec::new(),
     };
     with_channel(&plain)
@@ -142,7 +144,11 @@ pub(super) fn required() -> Vec<String> {
     let (odd, large, larger) = (LARGEST_PAYLOAD - 1, LARGEST_PAYLOAD + 1, LARGEST_PAYLOAD + 2);
     let (lowest, highest, latest) = (DEVIATIONS.start(), DEVIATIONS.end(), i64::from(LATEST));
     let mut all = vec![
-        format!("<F|R|W|P|E|S> given channel <{}>: 1", any(FOREIGN_CHANNELS)),
+        format!("<F|R|W|P|E|S|H> given channel <{}>: 1", any(FOREIGN_CHANNELS)),
+        "H given channel <0|1>: 0".to_string(),
+        format!("Y given room <{LARGEST_FRAME}|{}|{MEMORY}>: 0", LARGEST_FRAME + 1),
+        format!("Y given room <0|1|{}>: 36", LARGEST_FRAME - 1),
+        "Y given runs 0: <0|23|36>".to_string(),
         format!("R given id <1..{id}>: 0"),
         format!("<R|W|O> given cycle <0..{cycle}>: 0"),
         "W given unnamed flags <0..7>: 0".to_string(),

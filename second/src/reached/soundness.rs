@@ -1,6 +1,7 @@
 //! The clauses of sound states, part by part: what was wrong with a state that was refused, what was right with others.
 
 use super::choices::any;
+use super::reader_soundness::of_reader;
 use super::Reached;
 use crate::answer::Answer;
 use crate::clock::ClockState;
@@ -8,6 +9,7 @@ use crate::faults::{WRONG_CYCLES, WRONG_IDS};
 use crate::frame::{Fields, HIGHEST_CYCLE, HIGHEST_ID, MOST_WORDS};
 use crate::history::with_conflict;
 use crate::marks::Mark;
+use crate::reader_numbers::ReaderNumbers;
 use crate::refusal::Refusal;
 use crate::scene::Kind;
 use crate::settings::{self, Settings, FIELDS, RATE_LIMIT, SYNC_ID_LIMIT};
@@ -15,7 +17,7 @@ use crate::slot::SlotStatus;
 use crate::sync_list::{SyncList, DEVIATIONS, PLACES};
 
 /// What stands in a part of a state, and whether it is right.
-type Parts = Vec<(String, bool)>;
+pub(super) type Parts = Vec<(String, bool)>;
 
 fn of_settings(settings: &Settings) -> Parts {
     let wrong = settings.out_of_range();
@@ -111,6 +113,7 @@ impl Reached {
             'A' | 'B' | 'X' => of_status(&self.held.status),
             'M' if !sound && self.held.clock.is_sound() => of_measured(&self.held.status),
             'O' | 'M' | 'C' => of_clock(&self.held.clock),
+            'Y' => of_reader(&ReaderNumbers::of(&self.held.reader)),
             _ => return,
         };
         // The clauses are told apart here otherwise than where the answer comes from, and both must say the same.

@@ -1,10 +1,13 @@
 //! The parts of every command in their order, told once: for taking them from a script and for adding them to one.
 
-use super::{Broken, Cause, Command, Encode, OnChannel, Opening, Write, LIMIT};
+use super::{
+    Broken, Cause, Command, Encode, Listen, OnChannel, Opening, Run, Write, LIMIT, MEMORY, MOST_RUNS, MOST_SAMPLES,
+};
 use crate::channel::Channel;
 use crate::clock::Times;
 use crate::clock_numbers::{ClockNumbers, ListNumbers, RowNumbers};
 use crate::closing::Controls;
+use crate::reader_numbers::{ReaderNumbers, LAST_PHASE};
 use crate::settings::Settings;
 use crate::status_numbers::{HeaderNumbers, StatusNumbers};
 
@@ -59,24 +62,31 @@ trait Way {
         self.forbid(byte > 1, Cause::WrongSwitch)
     }
 
-    /// A size or a room, which are broken in the same way but for different causes.
-    fn size(&mut self, size: &mut usize, above: Cause) -> Done {
+    fn channel_switch(&mut self, channel: &mut Channel) -> Done {
+        let mut on_b = *channel == Channel::B;
+        self.switch(&mut on_b)?;
+        *channel = if on_b { Channel::B } else { Channel::A };
+        Ok(())
+    }
+
+    /// Sizes, rooms and how many runs there are: broken in the same way but for different causes.
+    fn limited(&mut self, size: &mut usize, most: usize, above: Cause) -> Done {
         let mut number = *size as u16;
         self.number(&mut number)?;
         *size = number.into();
-        self.forbid(*size > LIMIT, above)
+        self.forbid(*size > most, above)
     }
 
     fn sized(&mut self, bytes: &mut Vec<u8>) -> Done {
         let mut size = bytes.len();
-        self.size(&mut size, Cause::SizeAbove)?;
+        self.limited(&mut size, LIMIT, Cause::SizeAbove)?;
         bytes.resize(size, 0);
         self.bytes(bytes)
     }
 
     /// The size of the output that is lent.
     fn room(&mut self, room: &mut usize) -> Done {
-        self.size(room, Cause::RoomAbove)
+        self.limited(room, LIMIT, Cause::RoomAbove)
     }
 
     fn on_channel(&mut self, given: &mut OnChannel) -> Done {
@@ -114,9 +124,7 @@ trait Way {
 
     fn status(&mut self, status: &mut StatusNumbers) -> Done {
         self.settings(&mut status.settings)?;
-        let mut on_b = status.channel == Channel::B;
-        self.switch(&mut on_b)?;
-        status.channel = if on_b { Channel::B } else { Channel::A };
+        self.channel_switch(&mut status.channel)?;
         self.number(&mut status.slot)?;
         self.byte(&mut status.cycle)?;
         self.byte(&mut status.marks)?;
@@ -165,6 +173,37 @@ trait Way {
         row.deviations.iter_mut().try_for_each(|deviation| self.signed(deviation))
     }
 
+    fn listen(&mut self, listen: &mut Listen) -> Done {
+        self.limited(&mut listen.room, MEMORY, Cause::MemoryAbove)?;
+        let mut runs = listen.runs.len();
+        self.limited(&mut runs, MOST_RUNS, Cause::RunsAbove)?;
+        listen.runs.resize(runs, Run::default());
+        let mut samples = 0;
+        for run in &mut listen.runs {
+            self.byte(&mut run.sample)?;
+            self.byte(&mut run.times)?;
+            samples += usize::from(run.times);
+            self.forbid(samples > MOST_SAMPLES, Cause::SamplesAbove)?;
+        }
+        Ok(())
+    }
+
+    fn reader(&mut self, reader: &mut ReaderNumbers) -> Done {
+        self.channel_switch(&mut reader.channel)?;
+        self.byte(&mut reader.samples)?;
+        self.byte(&mut reader.seen)?;
+        self.switch(&mut reader.voted)?;
+        self.byte(&mut reader.counter)?;
+        self.switch(&mut reader.realigns)?;
+        self.byte(&mut reader.timer)?;
+        self.byte(&mut reader.phase)?;
+        self.forbid(reader.phase > LAST_PHASE, Cause::PhaseAbove)?;
+        self.byte(&mut reader.number)?;
+        self.byte(&mut reader.value)?;
+        self.number(&mut reader.count)?;
+        self.long(&mut reader.since)
+    }
+
     /// Behind its letter.
     fn command(&mut self, command: &mut Command) -> Done {
         match command {
@@ -179,7 +218,10 @@ trait Way {
             Command::Measure(times) => self.times(times),
             Command::CloseCycle(controls) => self.controls(controls),
             Command::PutClock(numbers) => self.clock(numbers),
-            Command::Boundary | Command::OwnSending | Command::Show => Ok(()),
+            Command::OpenReader(channel) => self.byte(channel),
+            Command::Listen(listen) => self.listen(listen),
+            Command::PutReader(numbers) => self.reader(numbers),
+            Command::Boundary | Command::OwnSending | Command::Show | Command::ShowReader => Ok(()),
         }
     }
 }

@@ -26,7 +26,7 @@ pub fn add(plan: &mut Plan, random: &mut Random) {
 }
 
 /// No refusal, and then each one of an order.
-fn each(order: &[Refusal]) -> Vec<Vec<Refusal>> {
+pub(in crate::cases) fn each(order: &[Refusal]) -> Vec<Vec<Refusal>> {
     let mut all = vec![Vec::new()];
     all.extend(order.iter().map(|refusal| vec![*refusal]));
     all
@@ -44,7 +44,7 @@ fn add_clock_stays(plan: &mut Plan, random: &mut Random, open: bool) {
 }
 
 /// Every answer of every command that is about frames or slots.
-fn foreign_commands(random: &mut Random) -> Vec<Command> {
+pub(in crate::cases) fn foreign_commands(random: &mut Random) -> Vec<Command> {
     let mut all: Vec<Command> =
         each(&[Refusal::Channel]).iter().map(|faults| faulty_checksum(random, faults)).collect();
     all.extend(each(&READ_ORDER).iter().map(|faults| faulty_read(random, faults)));
@@ -74,7 +74,7 @@ fn add_status_stays(plan: &mut Plan, random: &mut Random) {
     }
 }
 
-fn clock_commands(random: &mut Random) -> Vec<Command> {
+pub(in crate::cases) fn clock_commands(random: &mut Random) -> Vec<Command> {
     let settings = fair_settings(random);
     let wrong = settings.with_field(SYNC_ID_LIMIT, wrong_value(random, SYNC_ID_LIMIT));
     let mut all = vec![Command::Load(settings), Command::Load(wrong)];

@@ -1,0 +1,17 @@
+pub mod Accepted
+pub mod Bytes
+pub mod Course
+pub mod Following
+pub mod Counting
+pub mod Patterns
+pub mod Clocks
+pub mod Cells
+pub mod Passing
+pub mod Edges
+pub mod Lifting
+pub mod Sent
+pub mod Sequence
+pub mod ReadBack
+pub mod Undisturbed
+pub mod Exact
+pub mod Heard

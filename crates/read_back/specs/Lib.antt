@@ -1,0 +1,4 @@
+pub mod Sending
+pub mod ReadBack
+pub mod Disturbed
+pub mod Witnesses

@@ -1,0 +1,9 @@
+pub mod Answers
+pub mod Kept
+pub mod Soundness
+pub mod Cut
+pub mod Given
+pub mod Playing
+pub mod Witnesses
+pub mod Gathered
+pub mod Numbers
