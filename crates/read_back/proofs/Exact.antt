@@ -14,23 +14,13 @@ use Rattle.base_types.specs.declared.channel.Channel.the-variants.{A}
 use Rattle.header.specs.Layout.{longestFrame, headerIn}
 use Rattle.frame.specs.Read.{refused}
 use Rattle.wire.specs.Stream.{coded, stream}
-use Rattle.wire_reader.specs.Decoder.{Told, nothing, frame, wrong, headerWrong, complete}
+use Rattle.wire_reader.specs.Decoder.{wrong, headerWrong, complete}
 use Rattle.wire_reader.specs.Reader as reader
 use Rattle.wire_reader.specs.Reader.{Event, fresh, run}
+use Rattle.reader_claims.specs.Given.{isFrame}
 use Rattle.read_back.specs.Sending.{Sending, Right, AllRight, none, _and_, sampled, samplesOfAll}
 use Rattle.read_back.specs.Disturbed as disturbed
-use Rattle.read_back.specs.Disturbed.{sparse, GivenNearly}
-use Rattle.read_back.proofs.Undisturbed.{undisturbed}
-
--- The claim, with so many others between changed ones.
-abbrev pub UndisturbedBy : ℕ → Type 0
-UndisturbedBy apart =
-    (channel : Channel) (i : ℕ) (memory : List ℕ) (l : List Sending) (flips : List Bool) → longestFrame ≤ length memory → AllRight channel l
-    → length flips ≡ length (samplesOfAll l) → sparse apart 0 flips ≡ true
-    → GivenNearly i l (run channel i (fresh memory) (exor flips (samplesOfAll l)) .events)
-
-pub by-three : UndisturbedBy 3
-by-three = undisturbed
+use Rattle.read_back.specs.Disturbed.{sparse, GivenNearly, NotByTwo}
 
 -- ---- one frame, of which four samples are changed
 
@@ -75,17 +65,12 @@ four-sparse = refl
 frameFirst : List Event → Bool
 frameFirst [] = false
 frameFirst (e ∷ l) = isFrame (e .told)
-  where
-    isFrame : Told → Bool
-    isFrame nothing = false
-    isFrame (frame header size since) = true
-    isFrame (wrong told) = false
 
 given-first : {i : ℕ} {s : Sending} {l : List Sending} {events : List Event} → GivenNearly i (s ∷ l) events → frameFirst events ≡ true
 unfolding frameFirst
 given-first (disturbed.one end reference h g rest) = refl
 
-pub exact : UndisturbedBy 2 → ⊥
+pub exact : NotByTwo
 unfolding frameFirst
 exact claim =
     let given = claim A 0 (replicate 262 0) (short ∷ []) four (omega arith) (_and_ short-right none) four-size four-sparse in

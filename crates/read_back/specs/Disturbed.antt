@@ -17,9 +17,12 @@ sparse apart free [] = true
 sparse apart free (false ∷ l) = sparse apart (free - 1) l
 sparse apart free (true ∷ l) = eqb free 0 && sparse apart apart l
 
--- "no four consecutive ones hold two changed ones".
+-- "no four consecutive ones hold two changed ones": three others stand between them.
+abbrev pub farEnough : ℕ
+farEnough = 3
+
 abbrev pub harmless : List Bool → Type 0
-harmless flips = sparse 3 0 flips ≡ true
+harmless flips = sparse farEnough 0 flips ≡ true
 
 -- Each frame is given once, at most one sample early or late, and its reference point likewise: 6 is the sample of a bit in which an undisturbed
 -- one is strobed.
@@ -30,10 +33,17 @@ pub data GivenNearly : ℕ → List Sending → List Event → Type 0 where
       → GivenNearly (i + sizeOf s) l events
       → GivenNearly i (s ∷ l) (given (i + endOf s + end - 6) (sinceOf s + end - reference) s ∷ events)
 
--- Changed samples that are far enough from each other do no harm, however many they are: not a frame is lost or damaged, and nothing
--- else is told.
-abbrev pub Undisturbed : Type 0
-Undisturbed =
+-- Changed samples with so many others between them do no harm, however many they are: not a frame is lost or damaged, and nothing else is
+-- told.
+abbrev pub UndisturbedBy : ℕ → Type 0
+UndisturbedBy apart =
     (channel : Channel) (i : ℕ) (memory : List ℕ) (l : List Sending) (flips : List Bool) → longestFrame ≤ length memory → AllRight channel l
-    → length flips ≡ length (samplesOfAll l) → harmless flips
+    → length flips ≡ length (samplesOfAll l) → sparse apart 0 flips ≡ true
     → GivenNearly i l (run channel i (fresh memory) (exor flips (samplesOfAll l)) .events)
+
+abbrev pub Undisturbed : Type 0
+Undisturbed = UndisturbedBy farEnough
+
+-- One less is not enough.
+abbrev pub NotByTwo : Type 0
+NotByTwo = UndisturbedBy 2 → ⊥

@@ -3,6 +3,7 @@
 -- nothing; 01 asks that a statement determines the answer, the state and all that is lent.
 use Prim.Native.Nat.{ℕ}
 use mathlib.Core.Path.{_≡_}
+use mathlib.Core.Bool.{Bool, true}
 use mathlib.Core.List.{List, map}
 use Rattle.refusal.specs.Refusal.{InOrder}
 use Rattle.wire_reader.specs.declared.reader.Reader.{Reader}
@@ -43,9 +44,14 @@ LevelsAlone =
     (reader : Reader) (samples others before after : List ℕ) (r : Listened)
     → map isHigh samples ≡ map isHigh others → ListenSays reader samples before after r → ListenSays reader others before after r
 
--- ---- what a witness shows
+-- ---- what the witnesses show
 
 -- `listen_number`: it is in order, and with any but 0 the memory is as it was.
 pub record NumberTold (reader : Reader) (before after : List ℕ) (n : ℕ) : Type 0 where
   pub order : InOrder (listenRefusals reader before) n
   pub refused : (n ≡ 0 → ⊥) → after ≡ before
+
+-- `heard_alike`: of samples whose levels are the same, with the same memory.
+abbrev pub Alike : List ℕ → List ℕ → List ℕ → List ℕ → List ℕ → List ℕ → Bool → Type 0
+Alike samples before after others other-before other-after r =
+    map isHigh samples ≡ map isHigh others → before ≡ other-before → (r ≡ true) × (after ≡ other-after)

@@ -8,7 +8,7 @@ ghost use Rattle.division.specs.Bits.{bit as Bits·bit};
 ghost use Rattle.base_types.specs.Channel.{notAChannel};
 ghost use Rattle.wire_reader.specs.Sound.{sound};
 ghost use Rattle.wire_reader.specs.Listening.{toldBy, ListenSays};
-ghost use Rattle.reader_claims.specs.Answers.{NumberTold};
+ghost use Rattle.reader_claims.specs.Answers.{NumberTold, Alike};
 ghost use Rattle.reader_claims.specs.Given.{isFrame};
 ghost use Rattle.reader_claims.specs.Numbers.{isOneOf, errorNumbers};
 ghost use Rattle.reader_claims.specs.Playing.{PlayedSays};
@@ -86,6 +86,22 @@ pub fn given_again(reader: Reader, samples: &[u8], memory: &mut [u8]) -> bool
         return false;
     };
     true
+}
+
+// Whether two calls that differ in the bytes of high samples alone, each with its own memory, take as many samples. They leave the same memory
+// too.
+pub fn heard_alike(
+    reader: Reader,
+    samples: &[u8],
+    first: &mut [u8],
+    others: &[u8],
+    second: &mut [u8],
+) -> bool
+    ensures { λ r. ⌜ Alike (now (samples .entry)) (now (first .entry)) (now (first .exit)) (now (others .entry)) (now (second .entry)) (now (second .exit)) r ⌝ }
+{
+    let heard = wire_reader::listen(reader, samples, first);
+    let other = wire_reader::listen(reader, others, second);
+    heard.taken == other.taken
 }
 
 // The number of the first event of a reader that is opened: that of an error, or 0 where nothing or a frame is told, or a call is refused.

@@ -4,6 +4,9 @@
 // and a reader. For the crates above: `Reader` with `fresh`, `none`, which is all zeros, and `is_sound`, by which a reader that a host hands in
 // is refused; `Event`, which is what a sample tells. Voting and the bit clock stand in the crate `bit_clock`, the rule of reading in `frame`.
 //
+// A host opens a reader for each wire, and lends it the same memory with each call. It hands in what its recorder delivered, and, as long as a
+// call tells something, the samples that were not taken; the reader that comes back is handed in with the next call.
+//
 // Flags are joined by `&` and `|`: the prover follows them more easily than `&&` and `||`.
 mod decoder;
 mod event;

@@ -9,7 +9,7 @@ use crate::reader_numbers::{
 use crate::samples;
 
 /// Behind a low bit, which was strobed with the last sample.
-const LOW: ReaderNumbers = ReaderNumbers {
+pub(super) const LOW: ReaderNumbers = ReaderNumbers {
     channel: Channel::A,
     samples: 0,
     seen: 4,

@@ -1,7 +1,7 @@
 //! Readers that were put somewhere and hear samples: every state of the bit clock, either bit in every phase, counts at
 //! their ends, and bytes that were not heard as the reader says.
 
-use super::{hear, line_of, listed, open_and_hear, put, show};
+use super::{hear, line_of, listed, open_and_hear, phases, put, show};
 use crate::channel::Channel;
 use crate::listed_frames::SHORT;
 use crate::plan::{Expected, Plan};
@@ -13,20 +13,7 @@ use crate::script::Command;
 use Next::{Phase, Told};
 
 /// Strobes a low bit with the next sample, if that is low.
-const READY: ReaderNumbers = ReaderNumbers {
-    channel: Channel::A,
-    samples: 0,
-    seen: 4,
-    voted: false,
-    counter: 5,
-    realigns: false,
-    timer: 0,
-    phase: WAITING,
-    number: 0,
-    value: 0,
-    count: 0,
-    since: 0,
-};
+const READY: ReaderNumbers = ReaderNumbers { counter: 5, ..phases::LOW };
 
 pub fn add(plan: &mut Plan) {
     add_bit_clocks(plan);
