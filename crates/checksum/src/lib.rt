@@ -1,13 +1,14 @@
 // The two checksums of a frame (document 01, "Frame layout").
 //
-// Entry: `frame_checksum`, on a channel number and bytes. For the crates above: `header_checksum` and `frame_checksum_on`. Both
-// checksums come of one `step`, the loop body of document 002, section 4.5.1, over any width.
+// Entry: `frame_checksum`, on a channel number and bytes. For the crates above: `header_checksum` and `frame_checksum_on`. Both divide as
+// the loop of document 002, section 4.5.1, does: the header checksum bit by bit, the frame checksum a byte at a time, by the table of the
+// crate `checksum_table`.
 ghost use mathlib.Core.Path.{_≡_};
 ghost use mathlib.Core.List.{[], _∷_};
 ghost use Prim.Native.Nat.{_<_, _≤_, _^_, min};
-ghost use Rattle.division.specs.Bits.{bits, bytesBits};
+ghost use Rattle.division.specs.Bits.{odd, bits, bytesBits};
 ghost use Rattle.division.specs.Division.{Fed};
-ghost use Rattle.checksum.specs.Checksums.{headerDivision, framePolynomial, frameChecksum};
+ghost use Rattle.checksum.specs.Checksums.{headerPolynomial, headerDivision, framePolynomial, frameChecksum};
 ghost use Rattle.checksum.specs.FrameChecksum.{told, FrameChecksumSays};
 use base_types::Channel;
 use base_types::Named;
@@ -48,33 +49,31 @@ const HEADER_START: u32 = 0x01A;
 
 const FRAME_WIDTH: u32 = 24;
 
-const FRAME_POLYNOMIAL: u32 = 0x5D_6DCB;
-
-// The register after one more bit: shifted left, and with the polynomial taken in where the bit is not the top bit that left.
-fn step(width: u32, polynomial: u32, register: u32, next: bool) -> u32
-    requires { ⌜ (0 < width) × (width < 32) × (polynomial < 2 ^ width) ⌝ }
-    ensures { λ r. ⌜ Fed width polynomial register (next ∷ []) r ⌝ }
+// The header checksum's register after one more bit: shifted left, and with the polynomial taken in where the bit is not the top bit that
+// left.
+fn step(register: u32, next: u32) -> u32
+    requires { ⌜ (register < 2 ^ 11) × (next < 2) ⌝ }
+    ensures { λ r. ⌜ Fed 11 headerPolynomial register (odd next ∷ []) r ⌝ }
 {
-    let mask = (1u32 << width) - 1;
-    let shifted = (register << 1) & mask;
-    let top = (register >> (width - 1)) & 1 == 1;
-    if next == top {
+    let top = register >> (HEADER_WIDTH - 1);
+    let shifted = (register << 1) & ((1 << HEADER_WIDTH) - 1);
+    if top == next {
         shifted
     } else {
-        shifted ^ polynomial
+        shifted ^ HEADER_POLYNOMIAL
     }
 }
 
-// The register after the `count` low bits of `n`, the most significant first.
-fn feed(width: u32, polynomial: u32, register: u32, n: u64, count: u32) -> u32
-    requires { ⌜ (0 < width) × (width < 32) × (polynomial < 2 ^ width) × (register < 2 ^ width) × (count ≤ 64) ⌝ }
-    ensures { λ r. ⌜ Fed width polynomial register (bits count n) r ⌝ }
+// The header checksum's register after the `count` low bits of `n`, the most significant first.
+fn feed(register: u32, n: u64, count: u32) -> u32
+    requires { ⌜ (register < 2 ^ 11) × (count ≤ 64) ⌝ }
+    ensures { λ r. ⌜ Fed 11 headerPolynomial register (bits count n) r ⌝ }
 {
     let mut r = register;
     let mut fed = 0;
     while fed < count {
         let place = count - 1 - fed;
-        r = step(width, polynomial, r, (n >> place) & 1 == 1);
+        r = step(r, ((n >> place) % 2) as u32);
         fed += 1;
     }
     r
@@ -85,13 +84,7 @@ fn feed(width: u32, polynomial: u32, register: u32, n: u64, count: u32) -> u32
 pub fn header_checksum(message: u64, count: u32) -> u16
     ensures { λ r. ⌜ r ≡ headerDivision (bits (min count 64) message) ⌝ }
 {
-    feed(
-        HEADER_WIDTH,
-        HEADER_POLYNOMIAL,
-        HEADER_START,
-        message,
-        up_to_64(count),
-    ) as u16
+    feed(HEADER_START, message, up_to_64(count)) as u16
 }
 
 fn up_to_64(count: u32) -> u32
@@ -100,7 +93,18 @@ fn up_to_64(count: u32) -> u32
     if count < 64 { count } else { 64 }
 }
 
-// The register after bytes, each most significant bit first.
+// The frame checksum's register after one more byte: shifted left, and with the table's entry taken in for what the byte makes of the
+// eight bits that left.
+fn feed_byte(register: u32, byte: u8) -> u32
+    requires { ⌜ register < 2 ^ 24 ⌝ }
+    ensures { λ r. ⌜ Fed 24 framePolynomial register (bits 8 byte) r ⌝ }
+{
+    let top = register >> (FRAME_WIDTH - 8);
+    let shifted = (register << 8) & ((1 << FRAME_WIDTH) - 1);
+    shifted ^ checksum_table::entry(top ^ byte as u32)
+}
+
+// The frame checksum's register after bytes.
 fn feed_bytes(register: u32, bytes: &[u8]) -> u32
     requires { ⌜ register < 2 ^ 24 ⌝ }
     ensures { λ r. ⌜ Fed 24 framePolynomial register (bytesBits (now (bytes .entry))) r ⌝ }
@@ -108,7 +112,7 @@ fn feed_bytes(register: u32, bytes: &[u8]) -> u32
     let mut r = register;
     let mut i = 0;
     while i < bytes.len() {
-        r = feed(FRAME_WIDTH, FRAME_POLYNOMIAL, r, bytes[i] as u64, 8);
+        r = feed_byte(r, bytes[i]);
         i += 1;
     }
     r

@@ -41,8 +41,11 @@ xor-four a b c d =
     ∙ ap (λ (z : Bool). a ⊕ z) (sym (xor-assoc b c d) ∙ ap (λ (z : Bool). z ⊕ d) (xor-comm b c) ∙ xor-assoc c b d)
     ∙ sym (xor-assoc a c (b ⊕ d))
 
+xor-twice : (a b : Bool) → a ⊕ (a ⊕ b) ≡ b
+xor-twice a b = sym (xor-assoc a a b) ∙ ap (λ (z : Bool). z ⊕ b) (xor-same a)
+
 pub xor-back : (a b : Bool) → a ⊕ (b ⊕ a) ≡ b
-xor-back a b = ap (λ (z : Bool). a ⊕ z) (xor-comm b a) ∙ sym (xor-assoc a a b) ∙ ap (λ (z : Bool). z ⊕ b) (xor-same a)
+xor-back a b = ap (λ (z : Bool). a ⊕ z) (xor-comm b a) ∙ xor-twice a b
 
 pub xor-cancel : (c a b : Bool) → c ⊕ a ≡ c ⊕ b → a ≡ b
 xor-cancel false a b e = e
@@ -84,6 +87,14 @@ exor-four (a ∷ x) [] (c ∷ u) v = refl
 exor-four (a ∷ x) (b ∷ y) [] v = refl
 exor-four (a ∷ x) (b ∷ y) (c ∷ u) [] = refl
 exor-four (a ∷ x) (b ∷ y) (c ∷ u) (d ∷ v) = ap₂ _∷_ (xor-four a b c d) (exor-four x y u v)
+
+-- a string that is taken in twice is not there
+pub exor-twice : (x y : List Bool) → length x ≡ length y → exor x (exor x y) ≡ y
+unfolding exor
+exor-twice [] [] e = refl
+exor-twice [] (b ∷ y) e = absurd (omega arith)
+exor-twice (a ∷ x) [] e = absurd (omega arith)
+exor-twice (a ∷ x) (b ∷ y) e = ap₂ _∷_ (xor-twice a b) (exor-twice x y (omega arith))
 
 pub exor-cancel : (z x y : List Bool) → length x ≡ length z → length y ≡ length z → exor z x ≡ exor z y → x ≡ y
 unfolding exor

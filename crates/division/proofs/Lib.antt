@@ -11,4 +11,5 @@ pub mod Burst
 pub mod DistanceLaws
 pub mod FactsLaws
 pub mod TurnLaws
+pub mod TableLaws
 pub mod MachineLaws

@@ -5,3 +5,4 @@ pub mod Word
 pub mod Differing
 pub mod Distance
 pub mod Facts
+pub mod Table

@@ -20,16 +20,13 @@ Inv-loop register bytes r₀ i₀ r i =
 abbrev μ-loop : tie.MeasureT-loop
 μ-loop register bytes r₀ i₀ r i = length bytes - i
 
-cast-feed : tie.Need-cast-feed Inv-loop μ-loop
-cast-feed c = omega (arith, c .shared-slice-known2 .given (c .before .before .loop .i))
-
 loop-again : tie.Need-loop-again Inv-loop μ-loop
 loop-again c =
     let l = c .before .before .before .loop in
     let bytes = now (c .before .before .before .before .before .args .bytes) in (
       omega arith,
-      c .feed .ensures .small,
-      turn-byte 24 framePolynomial (l .r) (c .feed .result) bytes (l .i) (omega arith) (c .feed .ensures .value) ∙ l .inv .2,
+      c .«feed-byte» .ensures .small,
+      turn-byte 24 framePolynomial (l .r) (c .«feed-byte» .result) bytes (l .i) (omega arith) (c .«feed-byte» .ensures .value) ∙ l .inv .2,
     )
 
 returns : tie.Need-returns Inv-loop μ-loop
@@ -45,6 +42,6 @@ feed-bytes-spec =
     (tie.spec
     Inv-loop
     μ-loop
-    (λ c. search needs) (λ c. search needs) cast-feed
+    (λ c. search needs) (λ c. search needs)
     (λ c κs. search needs) (λ c. search needs) (λ c. search needs) loop-again
     returns)
