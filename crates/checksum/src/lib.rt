@@ -93,8 +93,8 @@ fn up_to_64(count: u32) -> u32
     if count < 64 { count } else { 64 }
 }
 
-// The frame checksum's register after one more byte: shifted left, and with the table's entry taken in for what the byte makes of the
-// eight bits that left.
+// The frame checksum's register after one more byte: shifted left, and with an entry of the table taken in. What is looked up is the byte,
+// with the eight bits that left the register taken into it.
 fn feed_byte(register: u32, byte: u8) -> u32
     requires { ⌜ register < 2 ^ 24 ⌝ }
     ensures { λ r. ⌜ Fed 24 framePolynomial register (bits 8 byte) r ⌝ }

@@ -17,12 +17,16 @@ not-below : (n x : ℕ) → NoneBelow n x → n ≤ x
 not-below zero x h = omega arith
 not-below (suc n) x h = omega (arith, not-below n x (h .0), h .1)
 
--- the number of an arm is that of the index: the arm's key is the index, and behind the last key the index counts as 255
-module _ {x n : ℕ} where
-  at : {k : ℕ} → x ≡ k → n ≡ entry 24 0x5D6DCB (min k 255) → n ≡ entry 24 0x5D6DCB (min x 255)
-  at e found = found ∙ ap (λ (i : ℕ). entry 24 0x5D6DCB (min i 255)) (sym e)
+-- what is right for an index
+abbrev right : ℕ → ℕ
+right x = entry 24 0x5D6DCB (min x 255)
 
-  at-last : NoneBelow 255 x → n ≡ entry 24 0x5D6DCB 255 → n ≡ entry 24 0x5D6DCB (min x 255)
+-- so is the number of an arm whose key is the index, and that of `_`, where the index counts as 255
+module _ {x n : ℕ} where
+  at : {k : ℕ} → x ≡ k → n ≡ right k → n ≡ right x
+  at e found = found ∙ ap right (sym e)
+
+  at-last : NoneBelow 255 x → n ≡ right 255 → n ≡ right x
   at-last none found =
       let e : min x 255 ≡ 255 = omega (arith, not-below 255 x none) in
       found ∙ ap (entry 24 0x5D6DCB) (sym e)
