@@ -2,14 +2,14 @@
 use Prim.Native.Nat.{ℕ, zero, suc, _+_, _*_, _/_, _%_, _^_, _<_}
 use mathlib.Core.Path.{_≡_, refl, sym, ap, ap₂, _∙_}
 use mathlib.Core.Bool.{Bool, true, false}
-use mathlib.Core.List.{List, [], _∷_, _++_}
+use mathlib.Core.List.{List, [], _∷_}
 use native.Mathlib.Nat.{mod-eq-of-lt, mod-one, pow-suc}
-use native.Mathlib.Numerals.{add-one, one-add}
+use native.Mathlib.Numerals.{one-add}
 use native.Mathlib.Omega.{arith}
 use lib.Dec.{eqb}
 use lib.Pow.{mod-pow-add}
 use lib.Bits.{bitXor, xor-block, xor-mod}
-use lib.ListN.{length, length-append}
+use lib.ListN.{length}
 use Rattle.division.specs.Bits.{odd, bit, bits, number}
 use Rattle.division.specs.Division.{_⊕_, exor}
 use Rattle.division.proofs.ExorLaws.{length-exor, zeros}
@@ -99,14 +99,6 @@ bits-xor w a b =
     (length-bits w (bitXor a b) ∙ sym (length-exor (bits w a) (bits w b) l ∙ length-bits w a))
     (number-bits w (bitXor a b) ∙ xor-mod a b w
     ∙ sym (number-exor (bits w a) (bits w b) l ∙ ap₂ bitXor (number-bits w a) (number-bits w b)))
-
--- a zero at the end doubles
-pub number-shifted : (l : List Bool) → number (l ++ (false ∷ [])) ≡ number l * 2
-unfolding number
-number-shifted [] = refl
-number-shifted (b ∷ l) =
-    ap₂ (λ (n x : ℕ). bit b * 2 ^ n + x) (length-append l (false ∷ []) ∙ add-one (length l)) (number-shifted l)
-    ∙ rw pow-suc (omega arith)
 
 pub number-zeros : (n : ℕ) → number (zeros n) ≡ 0
 unfolding number zeros

@@ -13,10 +13,6 @@ pub xor-same : (a : Bool) → a ⊕ a ≡ false
 xor-same false = refl
 xor-same true = refl
 
-pub xor-not : (a : Bool) → a ⊕ not a ≡ true
-xor-not false = refl
-xor-not true = refl
-
 pub xor-false : (a : Bool) → a ⊕ false ≡ a
 xor-false false = refl
 xor-false true = refl

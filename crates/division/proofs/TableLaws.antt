@@ -1,14 +1,16 @@
--- Division several bits at a time: so many turns from a register are a look-up and a shift.
-use Prim.Native.Nat.{ℕ, _+_, _-_, _*_, _/_, _%_, _^_}
+-- Division several bits at a time: so many turns from a register are a look-up and a shift. With one bit the table has two entries, 0 and
+-- the polynomial.
+use Prim.Native.Nat.{ℕ, suc, _+_, _-_, _*_, _/_, _%_, _^_}
 use mathlib.Core.Path.{_≡_, sym, ap, ap₂, _∙_}
 use mathlib.Core.Bool.{Bool, false}
 use mathlib.Core.List.{List, [], _∷_, _++_, append-nil, append-assoc}
-use native.Mathlib.Nat.{add-zero, add-comm, mul-mod-left}
+use native.Mathlib.Nat.{add-zero, add-comm, mul-mod-left, div-one}
+use native.Mathlib.Numerals.{one-add}
 use native.Mathlib.Omega.{arith}
 use lib.Bits.{bitXor, xor-zero-r}
 use lib.Pow.{mod-pow-add, shl-shr}
 use lib.ListN.{length}
-use Rattle.division.specs.Bits.{bits, number}
+use Rattle.division.specs.Bits.{odd, bits, number}
 use Rattle.division.specs.Division.{exor, onlyIf, step, feed, checksum}
 use Rattle.division.specs.Table.{LooksUp}
 use Rattle.division.proofs.ExorLaws.{xor-same, exor-twice, onlyIf-false, zeros, length-zeros, exor-zeros}
@@ -38,7 +40,7 @@ own-bits p (b ∷ t) x e =
 -- ---- as numbers: `count` bits at a time, into a register of `rest` bits more
 
 -- the bits that leave a register do not count for what is shifted
-pub cut-shift : (count rest s : ℕ) → s % 2 ^ rest * 2 ^ count ≡ s * 2 ^ count % 2 ^ (count + rest)
+cut-shift : (count rest s : ℕ) → s % 2 ^ rest * 2 ^ count ≡ s * 2 ^ count % 2 ^ (count + rest)
 cut-shift count rest s =
     sym
     (ap (λ (w : ℕ). s * 2 ^ count % 2 ^ w) (add-comm count rest) ∙ mod-pow-add (s * 2 ^ count) rest count
@@ -70,6 +72,16 @@ module _ (count rest poly s : ℕ) where
       ∙ checksum-xor w poly s 0 own found (one-width count top (bitXor top n))
       ∙ ap (λ (x : ℕ). bitXor x (checksum w poly 0 found)) own-number
 
+one-bit : (n : ℕ) → bits 1 n ≡ odd n ∷ []
+unfolding bits
+one-bit n = ap (λ (m : ℕ). odd m ∷ []) (div-one n)
+
+-- one bit; the width is suc k
+pub look-up-bit : (k poly s n : ℕ) → checksum (suc k) poly s (odd n ∷ [])
+    ≡ bitXor (s * 2 % 2 ^ suc k) (checksum (suc k) poly 0 (odd (bitXor (s / 2 ^ k) n) ∷ []))
+look-up-bit k poly s n = rw (one-bit n, one-bit (bitXor (s / 2 ^ k) n), one-add k) at (look-up 1 k poly s n)
+
+-- eight
 pub looks-up : (width polynomial : ℕ) → LooksUp width polynomial
 looks-up w poly h s n =
     let e : 8 + (w - 8) ≡ w = omega arith in
