@@ -16,6 +16,7 @@ mod openings;
 mod reader;
 mod reading;
 mod round_trips;
+mod second_frames;
 mod sizes;
 mod soundness;
 mod undisturbed;
@@ -65,6 +66,7 @@ pub fn all() -> Plan {
     unlooked::add(&mut plan, &mut random);
     undisturbed::add(&mut plan, &mut random);
     add_slot_mixture(&mut plan, &mut random);
+    second_frames::add(&mut plan, &mut random);
     // Behind everything about slots: the first of these finds no clock loaded.
     clock::add(&mut plan, &mut random);
     add_clock_mixture(&mut plan, &mut random);

@@ -4,7 +4,7 @@ use crate::channel::Channel;
 use crate::clock::Times;
 use crate::clock_faults::{fair_controls, fair_times, unsound, wrong_controls, wrong_times, LONGEST_CYCLE};
 use crate::clock_numbers::ClockNumbers;
-use crate::clock_scene::{fair_clock, settings_with_static, some_ids, sync_status, HIGHEST_SYNC_ID};
+use crate::clock_scene::{doubled, fair_clock, settings_with_static, some_ids, sync_status, HIGHEST_SYNC_ID};
 use crate::draft::fair_cycle;
 use crate::faults::{wrong_cycle, wrong_value};
 use crate::frame::HIGHEST_CYCLE;
@@ -106,7 +106,8 @@ fn one_cycle(random: &mut Random, cluster: &Cluster, cycle: u8) -> Vec<Command> 
 fn one_frame(random: &mut Random, cluster: &Cluster, id: u16, channel: Channel, cycle: u8) -> Vec<Command> {
     let cycle = if random.one_in(30) { fair_cycle(random) } else { cycle };
     let mut commands = match random.below(10) {
-        0..=2 => vec![Command::PutStatus(sync_status(random, channel, id, cycle))],
+        0 | 1 => vec![Command::PutStatus(sync_status(random, channel, id, cycle))],
+        2 => vec![Command::PutStatus(doubled(sync_status(random, channel, id, cycle)))],
         _ => slot_of_frame(random, channel, id, cycle),
     };
     let times = match random.below(24) {
@@ -130,6 +131,10 @@ fn slot_of_frame(random: &mut Random, channel: Channel, id: u16, cycle: u8) -> V
     let mut commands = vec![slot.open(), Command::Arrived(good.bytes())];
     if random.one_in(20) {
         commands.remove(1);
+    }
+    // 02 C-15: a second frame, which may be no sync frame.
+    if random.one_in(8) {
+        commands.push(Command::Arrived(slot.good(random).bytes()));
     }
     commands
 }
@@ -178,6 +183,18 @@ mod tests {
             assert!(count(refused) > 0, "{refused}");
         }
         assert_eq!(count("script error"), 0);
+    }
+
+    /// 02 C-15: statuses with (f) are measured like others.
+    #[test]
+    fn some_statuses_have_second_frames() {
+        let measured = |pair: &&[Outcome]| match pair {
+            [Outcome::Answered(Command::PutStatus(put), _), Outcome::Answered(Command::Measure(_), answer)] => {
+                put.reason == 6 && answer.refusal().is_none()
+            }
+            _ => false,
+        };
+        assert!(some_outcomes().windows(2).filter(measured).count() > 50);
     }
 
     /// 02 C-12: both times in the second cycle of the counter, or one of them.

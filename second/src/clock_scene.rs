@@ -6,6 +6,7 @@ use crate::draft::fair_cycle;
 use crate::frame::{HIGHEST_CYCLE, HIGHEST_ID};
 use crate::marks::Mark;
 use crate::random::Random;
+use crate::reason::Reason;
 use crate::scene::fair_settings;
 use crate::settings::{
     self, Settings, DECODING_CORRECTION, DELAY_A, DELAY_B, FIELDS, MOST_STATIC_SLOTS, OFFSET_LIMIT, RATE_LIMIT,
@@ -162,6 +163,12 @@ pub fn status_with(settings: Settings, channel: Channel, id: u16, cycle: u8, fla
     StatusNumbers { settings, channel, slot: id, cycle, marks: Mark::Valid.bit(), reason: 0, kept: true, header }
 }
 
+/// 02 C-15: what a second good frame leaves of a status that holds one.
+pub fn doubled(status: StatusNumbers) -> StatusNumbers {
+    let marks = status.marks | Mark::ContentError.bit();
+    StatusNumbers { marks, reason: Reason::SecondGoodFrame.number(), ..status }
+}
+
 #[cfg(test)]
 mod tests {
     use super::*;
@@ -174,8 +181,10 @@ mod tests {
             assert!(clock.state().is_sound(), "{clock:?}");
             let channel = random.pick(&Channel::BOTH);
             let id = random.between(1, HIGHEST_SYNC_ID.into()) as u16;
-            let status = sync_status(&mut random, channel, id, clock.cycle).status();
-            assert!(status.is_sound() && status.is_static());
+            let numbers = sync_status(&mut random, channel, id, clock.cycle);
+            for status in [numbers, doubled(numbers)].map(|numbers| numbers.status()) {
+                assert!(status.is_sound() && status.is_static());
+            }
         }
         assert!(wide_settings(true).first_out_of_range().is_none());
     }

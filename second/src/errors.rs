@@ -220,7 +220,7 @@ fn with_wrong_byte(command: &Command, place: usize, byte: u8, cause: Cause) -> S
     Small { cause: Some(cause), ..with_byte(command, place, byte, "script error at 2\n") }
 }
 
-/// Switches that are neither 0 nor 1, and reasons above 5.
+/// Switches that are neither 0 nor 1, and reasons above 6.
 fn wrong_bytes() -> Vec<Small> {
     let (open, put) = (Command::OpenSlot(OPENING), Command::PutStatus(STATUS));
     let unlooked = Command::PutStatus(StatusNumbers { marks: 0, kept: false, ..STATUS });
@@ -229,7 +229,7 @@ fn wrong_bytes() -> Vec<Small> {
     for (command, place) in switches {
         all.extend([2, 3, 128, 255].map(|byte| with_wrong_byte(command, place, byte, Cause::WrongSwitch)));
     }
-    all.extend([6, 7, 128, 255].map(|byte| with_wrong_byte(&put, REASON, byte, Cause::ReasonAbove)));
+    all.extend([7, 8, 128, 255].map(|byte| with_wrong_byte(&put, REASON, byte, Cause::ReasonAbove)));
     all
 }
 
@@ -241,8 +241,8 @@ fn no_errors() -> Vec<Small> {
     let same = format!("status put\n{}", shown(STATUS_SHOWN));
     all.push(with_byte(&put, MARKS, 0b1101_0000, &same));
     all.push(with_byte(&put, FLAGS, 0b1110_0100, &same));
-    let last_reason = shown("status 1 2 3 4 5 6 7 8 9 0 11 1 0 1 0 16 5 1 4 1 0 1695 0\n");
-    all.push(with_byte(&put, REASON, 5, &format!("status put\n{last_reason}")));
+    let last_reason = shown("status 1 2 3 4 5 6 7 8 9 0 11 1 0 1 0 16 6 1 4 1 0 1695 0\n");
+    all.push(with_byte(&put, REASON, 6, &format!("status put\n{last_reason}")));
     all
 }
 

@@ -4,7 +4,7 @@ use crate::draft::Draft;
 use crate::marks::Mark;
 use crate::plan::{Expected, Plan};
 use crate::random::Random;
-use crate::reason::Reason;
+use crate::reason::{Reason, Test};
 use crate::refusal::{Refusal, READ_ORDER};
 use crate::scene::Scene;
 use crate::script::Command;
@@ -33,7 +33,7 @@ pub enum Happening {
     /// Bytes that can't be read.
     Refused(Vec<u8>),
     /// A frame with the first test that it misses.
-    Missing(Reason, Draft),
+    Missing(Test, Draft),
     Good(Draft),
     Boundary,
     OwnSending,
@@ -55,7 +55,7 @@ impl Happening {
     }
 
     /// A frame that misses the named tests, which stand in their order.
-    pub fn missing(random: &mut Random, scene: &Scene, tests: &[Reason]) -> Happening {
+    pub fn missing(random: &mut Random, scene: &Scene, tests: &[Test]) -> Happening {
         Happening::Missing(tests[0], scene.missing(random, tests))
     }
 
@@ -68,15 +68,32 @@ impl Happening {
         }
     }
 
-    fn mark(&self) -> Mark {
+    /// What it sets whatever happened before; "content error" stands where a reason does.
+    fn mark(&self) -> Option<Mark> {
         match self {
-            Happening::Refused(_) => Mark::SyntaxError,
-            Happening::Missing(..) => Mark::ContentError,
-            Happening::Good(_) => Mark::Valid,
-            Happening::Boundary => Mark::BoundaryViolation,
-            Happening::OwnSending => Mark::OwnSending,
+            Happening::Refused(_) => Some(Mark::SyntaxError),
+            Happening::Missing(..) => None,
+            Happening::Good(_) => Some(Mark::Valid),
+            Happening::Boundary => Some(Mark::BoundaryViolation),
+            Happening::OwnSending => Some(Mark::OwnSending),
         }
     }
+
+    fn tested(&self) -> Option<Tested> {
+        match self {
+            Happening::Missing(test, _) => Some(Tested::Missed(*test)),
+            Happening::Good(_) => Some(Tested::Good),
+            _ => None,
+        }
+    }
+}
+
+/// What the tests say of a frame.
+#[derive(Clone, Copy, Debug, PartialEq, Eq)]
+pub enum Tested {
+    /// The first test that it misses.
+    Missed(Test),
+    Good,
 }
 
 /// All read refusals but that of a channel, which a slot can't meet.
@@ -100,12 +117,11 @@ pub fn with_conflict(marks: u8) -> u8 {
 /// What must be shown after a history that starts from a sound status.
 pub fn demanded(before: &StatusNumbers, history: &[Happening]) -> StatusNumbers {
     let before = before.looked_at();
-    let marks = history.iter().fold(before.marks, |marks, happening| marks | happening.mark().bit());
-    let after = StatusNumbers {
-        marks: with_conflict(marks),
-        reason: first_reason(&before, history).map_or(0, Reason::number),
-        ..before
-    };
+    let reason = Reason::from_number(before.reason).or(first_reason(&frames(&before, history)));
+    let content_error = reason.map(|_| Mark::ContentError);
+    let set = history.iter().filter_map(Happening::mark).chain(content_error);
+    let marks = set.fold(before.marks, |marks, mark| marks | mark.bit());
+    let after = StatusNumbers { marks: with_conflict(marks), reason: reason.map_or(0, Reason::number), ..before };
     let first_good = history.iter().find_map(|happening| match happening {
         Happening::Good(draft) if !before.kept => Some(HeaderNumbers::of(&draft.fields())),
         _ => None,
@@ -113,12 +129,20 @@ pub fn demanded(before: &StatusNumbers, history: &[Happening]) -> StatusNumbers 
     first_good.map_or(after, |header| StatusNumbers { kept: true, header, ..after })
 }
 
-fn first_reason(before: &StatusNumbers, history: &[Happening]) -> Option<Reason> {
-    let missed = history.iter().find_map(|happening| match happening {
-        Happening::Missing(reason, _) => Some(*reason),
-        _ => None,
-    });
-    Reason::from_number(before.reason).or(missed)
+/// The frames that could be read, in their order; one that is kept from before was good.
+fn frames(before: &StatusNumbers, history: &[Happening]) -> Vec<Tested> {
+    let earlier = before.kept.then_some(Tested::Good);
+    earlier.into_iter().chain(history.iter().filter_map(Happening::tested)).collect()
+}
+
+/// 02 C-15, over all frames of a slot: every one but the first good one has a reason, and the slot's is the first of them.
+pub fn first_reason(frames: &[Tested]) -> Option<Reason> {
+    let first_good = frames.iter().position(|frame| *frame == Tested::Good);
+    let first_marked = (0..frames.len()).find(|place| Some(*place) != first_good)?;
+    match frames[first_marked] {
+        Tested::Missed(test) => Some(Reason::Missed(test)),
+        Tested::Good => Some(Reason::SecondGoodFrame),
+    }
 }
 
 /// Opens a slot and plays a history in it.
@@ -171,8 +195,8 @@ mod tests {
         let missing = |test, draft: &Draft| Happening::Missing(test, draft.clone());
         let history = [
             Happening::Good(good[0].clone()),
-            missing(Reason::DynamicNull, &good[0]),
-            missing(Reason::Id, &good[0]),
+            missing(Test::DynamicNull, &good[0]),
+            missing(Test::Id, &good[0]),
             Happening::OwnSending,
             Happening::Good(good[1].clone()),
         ];
@@ -181,6 +205,38 @@ mod tests {
         assert_eq!(demanded(&scene.fresh(), &history), after);
         assert_eq!(demanded(&scene.fresh(), &history[..2]), StatusNumbers { marks: 18, ..after });
         assert_eq!(demanded(&after, &[Happening::Boundary]), StatusNumbers { marks: 62, ..after });
+    }
+
+    /// 02 C-15: the second good frame gives (f), equal to the first or not, also behind one that was put; the first reason
+    /// stays.
+    #[test]
+    fn second_frames_by_hand() {
+        let mut random = Random::from_seed(6);
+        let scene = Scene::fair(&mut random, Channel::A, Kind::Static);
+        let [first, other] = [(); 2].map(|_| scene.good(&mut random));
+        let header = HeaderNumbers::of(&first.fields());
+        let missing = || Happening::Missing(Test::Cycle, other.clone());
+        let (first, other) = (|| Happening::Good(first.clone()), || Happening::Good(other.clone()));
+        let one = StatusNumbers { marks: 16, kept: true, header, ..scene.fresh() };
+        let two = StatusNumbers { marks: 18, reason: 6, ..one };
+        let missed = StatusNumbers { reason: 2, ..two };
+        let sent = StatusNumbers { marks: 58, ..two };
+        let cases: [(StatusNumbers, &[Happening], StatusNumbers); 11] = [
+            (scene.fresh(), &[first()], one),
+            (scene.fresh(), &[first(), first()], two),
+            (scene.fresh(), &[first(), other()], two),
+            (scene.fresh(), &[first(), other(), first()], two),
+            (scene.fresh(), &[first(), other(), missing()], two),
+            (scene.fresh(), &[first(), missing(), other()], missed),
+            (scene.fresh(), &[missing(), first(), other()], missed),
+            (scene.fresh(), &[first(), Happening::OwnSending, other()], sent),
+            (one, &[other(), missing()], two),
+            (two, &[missing(), other()], two),
+            (missed, &[other()], missed),
+        ];
+        for (before, history, after) in cases {
+            assert_eq!(demanded(&before, history), after);
+        }
     }
 
     #[test]

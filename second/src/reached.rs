@@ -15,6 +15,7 @@ mod given;
 mod measuring;
 mod reader;
 mod reader_soundness;
+mod second_frames;
 mod slots;
 mod soundness;
 mod stays;
@@ -35,6 +36,7 @@ use crate::replay::Outcome;
 use crate::script::{Cause, Command, OnChannel};
 use crate::status_numbers::StatusNumbers;
 use reader::Behind;
+use second_frames::Frames;
 use stays::{Origin, Subject};
 
 #[derive(Default)]
@@ -58,12 +60,15 @@ pub struct Reached {
     reader_from: Origin,
     /// What happened since the slot was opened.
     history: Vec<Sort>,
+    frames: Frames,
     /// The numbers from which the states that are held were made.
     put_status: Option<StatusNumbers>,
     put_clock: Option<ClockNumbers>,
     put_reader: Option<ReaderNumbers>,
     /// What the last closed cycle was when an odd cycle was opened, until another one is.
     odd_opened: Option<Last>,
+    /// The statuses with reason (f) that were measured in the cycle that was opened last.
+    measured_with_f: Vec<String>,
     behind: Behind,
 }
 
@@ -138,6 +143,7 @@ impl Reached {
             Command::Show => {
                 self.add_shown(&[Subject::Status, Subject::Clock]);
                 self.add_shown_status();
+                self.add_shown_frames();
             }
             Command::OpenReader(_) => self.add_open_reader(answer),
             Command::Listen(listen) => self.add_listen(listen, answer),
@@ -164,6 +170,7 @@ fn required() -> Vec<String> {
     all.extend(bench::required());
     all.extend(streams::required());
     all.extend(slots::required());
+    all.extend(second_frames::required());
     all.extend(soundness::required());
     all.extend(unlooked::required());
     all.extend(cycles::required());

@@ -121,8 +121,9 @@ mod tests {
         let opening = [b"S", &SHEET[..], b"\x01\x01\x00\x00"].concat();
         let refused = [b"S", &SHEET[..], b"\x01\x00\x08\x00"].concat();
         let out_of_range = [b"S", &[0; 45][..], b"\x02\x00\x00\xFF"].concat();
-        let events = b"DXDA\x08\x00\x20\x01\x01\xA7\xC0\x3B\xD0\x8FDBDA\x00\x00D";
-        let script = [b"DX", &opening[..], events, &refused, b"D", &opening, &out_of_range, b"BD"].concat();
+        let frame = b"A\x08\x00\x20\x01\x01\xA7\xC0\x3B\xD0\x8FD";
+        let events = [b"DXD", &frame[..], b"BDA\x00\x00D", frame, frame].concat();
+        let script = [b"DX", &opening[..], &events, &refused, b"D", &opening, &out_of_range, b"BD"].concat();
         let zeros = "status 0 0 0 0 0 0 0 0 0 0 0 0 0 0 0 0 0 0 0 0 0 0 0";
         let zero_clock = "clock 0 0 0 0 0 0 0 0 0 0 0 0 0 0 0 0 0 EVEN 0 ODD 0";
         let lines = [
@@ -144,6 +145,12 @@ mod tests {
             "event 0",
             zero_clock,
             "status 0 0 0 2 0 0 0 0 0 0 2 1 1 1 0 61 0 1 4 1 0 1695 0",
+            "event 0",
+            zero_clock,
+            "status 0 0 0 2 0 0 0 0 0 0 2 1 1 1 0 63 6 1 4 1 0 1695 0",
+            "event 0",
+            zero_clock,
+            "status 0 0 0 2 0 0 0 0 0 0 2 1 1 1 0 63 6 1 4 1 0 1695 0",
             "slot 9 0",
             zero_clock,
             zeros,

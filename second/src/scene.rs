@@ -8,7 +8,7 @@ use crate::faults::{faulty_bytes, other_words};
 use crate::frame::{Indicators, HIGHEST_CYCLE, HIGHEST_ID};
 use crate::marks::Mark;
 use crate::random::Random;
-use crate::reason::Reason;
+use crate::reason::{Reason, Test};
 use crate::refusal::Refusal;
 use crate::script::{Command, Opening};
 use crate::settings::{Settings, RANGES, STATIC_SLOTS, STATIC_WORDS};
@@ -33,10 +33,10 @@ impl Kind {
     }
 
     /// The tests that a frame can miss in such a slot.
-    pub fn tests(self) -> &'static [Reason] {
+    pub fn tests(self) -> &'static [Test] {
         match self {
-            Kind::Static => &[Reason::Id, Reason::Cycle, Reason::StaticWords],
-            Kind::Dynamic => &[Reason::Id, Reason::Cycle, Reason::DynamicSync, Reason::DynamicNull],
+            Kind::Static => &[Test::Id, Test::Cycle, Test::StaticWords],
+            Kind::Dynamic => &[Test::Id, Test::Cycle, Test::DynamicSync, Test::DynamicNull],
         }
     }
 }
@@ -99,13 +99,14 @@ impl Scene {
 
     /// The status with these marks, and with the reason and the frame that two of them ask for.
     pub fn marked(&self, random: &mut Random, marks: u8) -> StatusNumbers {
-        let status = StatusNumbers { marks, ..self.fresh() };
-        let reason = if marks & Mark::ContentError.bit() == 0 { 0 } else { random.pick(&Reason::IN_ORDER).number() };
-        if marks & Mark::Valid.bit() == 0 {
-            return StatusNumbers { reason, ..status };
+        let [content_error, valid] = [Mark::ContentError, Mark::Valid].map(|mark| marks & mark.bit() != 0);
+        let reason = if content_error { any_reason(random, valid).number() } else { 0 };
+        let status = StatusNumbers { marks, reason, ..self.fresh() };
+        if !valid {
+            return status;
         }
         let header = HeaderNumbers::of(&self.good(random).fields());
-        StatusNumbers { reason, kept: true, header, ..status }
+        StatusNumbers { kept: true, header, ..status }
     }
 
     /// A frame that misses no test.
@@ -114,28 +115,28 @@ impl Scene {
     }
 
     /// A frame that misses the named tests and no other; all of them are tests of this kind of slot.
-    pub fn missing(&self, random: &mut Random, tests: &[Reason]) -> Draft {
+    pub fn missing(&self, random: &mut Random, tests: &[Test]) -> Draft {
         let right_words = match self.kind {
             Kind::Static => self.settings.field(STATIC_WORDS) as u8,
             Kind::Dynamic => fair_words(random),
         };
         let wrong = |test| tests.contains(&test);
-        let words = if wrong(Reason::StaticWords) { other_words(random, right_words) } else { right_words };
+        let words = if wrong(Test::StaticWords) { other_words(random, right_words) } else { right_words };
         let fair = Draft::fair(random, self.channel, words);
         Draft {
-            id: if wrong(Reason::Id) { other_id(random, self.slot) } else { self.slot },
-            cycle: if wrong(Reason::Cycle) { other_cycle(random, self.cycle) } else { self.cycle },
+            id: if wrong(Test::Id) { other_id(random, self.slot) } else { self.slot },
+            cycle: if wrong(Test::Cycle) { other_cycle(random, self.cycle) } else { self.cycle },
             indicators: self.indicators(random, fair.indicators, tests),
             ..fair
         }
     }
 
-    fn indicators(&self, random: &mut Random, fair: Indicators, missed: &[Reason]) -> Indicators {
+    fn indicators(&self, random: &mut Random, fair: Indicators, missed: &[Test]) -> Indicators {
         if self.kind == Kind::Static {
             return fair;
         }
-        let sync = missed.contains(&Reason::DynamicSync);
-        Indicators { sync, startup: sync && random.coin(), null_frame: !missed.contains(&Reason::DynamicNull), ..fair }
+        let sync = missed.contains(&Test::DynamicSync);
+        Indicators { sync, startup: sync && random.coin(), null_frame: !missed.contains(&Test::DynamicNull), ..fair }
     }
 
     /// A frame that would be good if there were no cause for this read refusal.
@@ -148,6 +149,14 @@ impl Scene {
     pub fn strange(&self, random: &mut Random) -> Vec<u8> {
         Scene { channel: self.channel.other(), ..*self }.good(random).bytes()
     }
+}
+
+/// 02 C-15: (f) is sound only with "valid".
+fn any_reason(random: &mut Random, valid: bool) -> Reason {
+    if valid {
+        return random.pick(&Reason::ALL);
+    }
+    Reason::Missed(random.pick(&Test::IN_ORDER))
 }
 
 /// Settings in range, the ends of the ranges more often than chance would have it.

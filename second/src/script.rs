@@ -314,7 +314,7 @@ mod tests {
             slot: 0x5150,
             cycle: 0x52,
             marks: 0xEE,
-            reason: 5,
+            reason: 6,
             kept: false,
             header,
         };
@@ -330,7 +330,7 @@ mod tests {
             match script[0] {
                 b'S' => script.extend([&sheet[..], b"\x09\x31\x32\x33"].concat()),
                 b'T' => {
-                    script.extend([&sheet[..], b"\x01\x50\x51\x52\xEE\x05\x00\xFF\x53\x54\x55\x56\x57\x58"].concat())
+                    script.extend([&sheet[..], b"\x01\x50\x51\x52\xEE\x06\x00\xFF\x53\x54\x55\x56\x57\x58"].concat())
                 }
                 _ => (),
             }

@@ -1,9 +1,9 @@
-//! Judgement of one slot on one channel by 01 "Judging a slot" and "Refusal numbers".
+//! Judgement of one slot on one channel by 01 "Judging a slot" and "Refusal numbers", both as 02 C-15 amends them.
 
 use crate::channel::Channel;
 use crate::frame::{self, Fields, HIGHEST_CYCLE, HIGHEST_ID};
 use crate::marks::{Mark, Marks};
-use crate::reason::Reason;
+use crate::reason::{Reason, Test};
 use crate::refusal::{holding, refuse_first, Refusal};
 use crate::settings::{Settings, STATIC_SLOTS, STATIC_WORDS};
 
@@ -28,7 +28,7 @@ pub enum Event<'a> {
 /// What one arrival comes to.
 enum Verdict {
     Unreadable,
-    Missed(Reason),
+    Missed(Test),
     Good(Fields),
 }
 
@@ -73,35 +73,39 @@ impl SlotStatus {
         self.misses(&fields).first().map_or(Verdict::Good(fields), |first| Verdict::Missed(*first))
     }
 
-    /// The first reason and the first good frame stay.
     fn take_in(&mut self, verdict: Verdict) {
         match verdict {
             Verdict::Unreadable => self.marks.set(Mark::SyntaxError),
-            Verdict::Missed(reason) => {
-                self.marks.set(Mark::ContentError);
-                self.reason.get_or_insert(reason);
-            }
+            Verdict::Missed(test) => self.set_content_error(Reason::Missed(test)),
+            // 02 C-15: the first good frame stays the kept one, and one like it is a second frame as well.
+            Verdict::Good(_) if self.marks.has(Mark::Valid) => self.set_content_error(Reason::SecondGoodFrame),
             Verdict::Good(fields) => {
                 self.marks.set(Mark::Valid);
-                self.kept.get_or_insert(fields);
+                self.kept = Some(fields);
             }
         }
     }
 
-    /// The tests that a frame misses here, in their order.
-    pub fn misses(&self, fields: &Fields) -> Vec<Reason> {
-        Reason::IN_ORDER.into_iter().filter(|reason| !self.passes(*reason, fields)).collect()
+    /// The first reason stays.
+    fn set_content_error(&mut self, reason: Reason) {
+        self.marks.set(Mark::ContentError);
+        self.reason.get_or_insert(reason);
     }
 
-    fn passes(&self, test: Reason, fields: &Fields) -> bool {
+    /// The tests that a frame misses here, in their order.
+    pub fn misses(&self, fields: &Fields) -> Vec<Test> {
+        Test::IN_ORDER.into_iter().filter(|test| !self.passes(*test, fields)).collect()
+    }
+
+    fn passes(&self, test: Test, fields: &Fields) -> bool {
         let indicators = fields.indicators;
         match test {
-            Reason::Id => fields.id == self.slot,
-            Reason::Cycle => fields.cycle == self.cycle,
-            Reason::StaticWords => !self.is_static() || u32::from(fields.words) == self.settings.field(STATIC_WORDS),
-            Reason::DynamicSync => self.is_static() || !(indicators.sync || indicators.startup),
+            Test::Id => fields.id == self.slot,
+            Test::Cycle => fields.cycle == self.cycle,
+            Test::StaticWords => !self.is_static() || u32::from(fields.words) == self.settings.field(STATIC_WORDS),
+            Test::DynamicSync => self.is_static() || !(indicators.sync || indicators.startup),
             // A null frame has its null frame bit 0.
-            Reason::DynamicNull => self.is_static() || indicators.null_frame,
+            Test::DynamicNull => self.is_static() || indicators.null_frame,
         }
     }
 
@@ -115,12 +119,13 @@ impl SlotStatus {
         self.marks.has(Mark::OwnSending) && arrived.into_iter().any(|mark| self.marks.has(mark))
     }
 
-    /// 01 "Refusal numbers": what makes a slot status sound.
+    /// 01 "Refusal numbers" and 02 C-15: what makes a slot status sound.
     pub fn is_sound(&self) -> bool {
         self.would_open()
             && self.reason.is_some() == self.marks.has(Mark::ContentError)
             && self.kept.is_some() == self.marks.has(Mark::Valid)
             && self.kept.iter().all(|kept| frame::could_be_read(kept) && self.misses(kept).is_empty())
+            && (self.reason != Some(Reason::SecondGoodFrame) || self.marks.has(Mark::Valid))
             && self.marks.has(Mark::Conflict) == self.sent_and_arrived()
     }
 

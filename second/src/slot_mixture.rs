@@ -1,11 +1,12 @@
 //! Slot commands at random: lifelike histories on slots that were opened and on statuses that were put.
 
+use crate::draft::Draft;
 use crate::faults::{faulty_opening, some_faults, wrong_value};
 use crate::frame::Fields;
 use crate::history::{with_conflict, Happening, Sort};
 use crate::mixture::{any_size, damaged};
 use crate::random::Random;
-use crate::reason::Reason;
+use crate::reason::{Reason, Test};
 use crate::refusal::OPEN_SLOT_ORDER;
 use crate::scene::Scene;
 use crate::script::Command;
@@ -17,9 +18,10 @@ const MOST_EVENTS: usize = 8;
 /// One slot from its opening on, or from a status put in its place; the status is shown after most events.
 pub fn episode(random: &mut Random) -> Vec<Command> {
     let scene = Scene::any(random);
+    let usual = scene.good(random);
     let mut commands = vec![start(random, &scene), Command::Show];
     for _ in 0..random.between(1, MOST_EVENTS) {
-        commands.push(event(random, &scene));
+        commands.push(event(random, &scene, &usual));
         if !random.one_in(5) {
             commands.push(Command::Show);
         }
@@ -43,9 +45,11 @@ fn opening_with_some_faults(random: &mut Random) -> Command {
     Command::OpenSlot(faulty_opening(random, &faults))
 }
 
-fn event(random: &mut Random, scene: &Scene) -> Command {
+/// Of the good frames half are the usual one, so that equal ones come behind each other (02 C-15).
+fn event(random: &mut Random, scene: &Scene, usual: &Draft) -> Command {
     match random.below(20) {
-        0..=5 => Happening::Good(scene.good(random)).command(),
+        0..=2 => Happening::Good(usual.clone()).command(),
+        3..=5 => Happening::Good(scene.good(random)).command(),
         6..=8 => frame_with_some_misses(random, scene),
         9 | 10 => {
             let good = scene.good(random);
@@ -61,7 +65,7 @@ fn event(random: &mut Random, scene: &Scene) -> Command {
 }
 
 fn frame_with_some_misses(random: &mut Random, scene: &Scene) -> Command {
-    let tests: Vec<Reason> = scene.kind.tests().iter().copied().filter(|_| random.one_in(3)).collect();
+    let tests: Vec<Test> = scene.kind.tests().iter().copied().filter(|_| random.one_in(3)).collect();
     Command::Arrived(scene.missing(random, &tests).bytes())
 }
 
@@ -81,7 +85,7 @@ fn changed(random: &mut Random, scene: &Scene) -> StatusNumbers {
     let sound = sound(random, scene);
     match random.below(12) {
         0 | 1 => StatusNumbers { marks: sound.marks ^ one_bit(random, 8) as u8, ..sound },
-        2 => StatusNumbers { reason: random.below(6) as u8, ..sound },
+        2 => StatusNumbers { reason: any_reason(random), ..sound },
         3 => StatusNumbers { kept: !sound.kept, ..sound },
         4 => StatusNumbers { slot: sound.slot ^ one_bit(random, 12), ..sound },
         5 => StatusNumbers { cycle: sound.cycle ^ one_bit(random, 7) as u8, ..sound },
@@ -92,6 +96,14 @@ fn changed(random: &mut Random, scene: &Scene) -> StatusNumbers {
         10 => StatusNumbers { header: HeaderNumbers::of(&missing_one(random, scene)), ..sound },
         _ => StatusNumbers { header: HeaderNumbers::of(&scene.good(random).fields()), ..sound },
     }
+}
+
+/// None or any, (f) as often as all others: by 02 C-15 it asks for "valid" as well.
+fn any_reason(random: &mut Random) -> u8 {
+    if random.coin() {
+        return Reason::SecondGoodFrame.number();
+    }
+    random.between(0, Reason::ALL.len()) as u8
 }
 
 fn missing_one(random: &mut Random, scene: &Scene) -> Fields {
@@ -138,7 +150,7 @@ fn wild(random: &mut Random) -> StatusNumbers {
         slot: random.below(0x1_0000) as u16,
         cycle: random.below(256) as u8,
         marks: random.below(256) as u8,
-        reason: random.below(6) as u8,
+        reason: any_reason(random),
         kept: random.coin(),
         header,
     }
@@ -147,7 +159,9 @@ fn wild(random: &mut Random) -> StatusNumbers {
 #[cfg(test)]
 mod tests {
     use super::*;
-    use crate::replay::Replay;
+    use crate::answer::Answer;
+    use crate::marks::Mark;
+    use crate::replay::{Outcome, Replay};
 
     /// At least half of the events are accepted, and some of every sort are refused.
     #[test]
@@ -162,5 +176,33 @@ mod tests {
         assert!(count("event 0") > count("event 23"));
         assert!(count("event 23") > 100);
         assert!(lines.iter().all(|line| !line.starts_with("script error")));
+    }
+
+    /// 02 C-15: (f) is put with "valid" and without it, equal frames arrive twice and three times, and (f) is shown.
+    #[test]
+    fn second_frames_turn_up() {
+        let mut random = Random::from_seed(15);
+        let episodes: Vec<Vec<Command>> = (0..2_000).map(|_| episode(&mut random)).collect();
+        let put = |valid: bool| episodes.iter().flatten().filter(|command| puts_f(command, valid)).count();
+        assert!(put(true) > 20 && put(false) > 20);
+        let arrived = |times| episodes.iter().filter(|commands| most_equal_arrivals(commands) >= times).count();
+        assert!(arrived(2) > 100 && arrived(3) > 20);
+        let mut script = Vec::new();
+        episodes.iter().flatten().for_each(|command| command.append_to(&mut script));
+        assert!(Replay::of(&script).filter(shows_f).count() > 500);
+    }
+
+    fn puts_f(command: &Command, valid: bool) -> bool {
+        matches!(command, Command::PutStatus(put) if put.reason == 6 && (put.marks & Mark::Valid.bit() != 0) == valid)
+    }
+
+    fn shows_f(outcome: &Outcome) -> bool {
+        matches!(outcome, Outcome::Answered(_, Answer::Shown(_, status)) if status.reason == 6)
+    }
+
+    fn most_equal_arrivals(commands: &[Command]) -> usize {
+        let arrived = |command: &&Command| matches!(command, Command::Arrived(bytes) if !bytes.is_empty());
+        let arrivals: Vec<&Command> = commands.iter().filter(arrived).collect();
+        arrivals.iter().map(|one| arrivals.iter().filter(|other| *other == one).count()).max().unwrap_or(0)
     }
 }

@@ -118,7 +118,7 @@ mod tests {
             slot: 65535,
             cycle: 113,
             marks: 42,
-            reason: 5,
+            reason: 6,
             kept: true,
             header: HeaderNumbers { flags: 21, id: 117, words: 118, checksum: 119, cycle: 120 },
         }
@@ -126,7 +126,7 @@ mod tests {
 
     #[test]
     fn every_number_has_its_place() {
-        let line = "status 101 102 103 104 105 106 107 108 109 110 4294967295 1 1 65535 113 42 5 1 21 117 118 119 120";
+        let line = "status 101 102 103 104 105 106 107 108 109 110 4294967295 1 1 65535 113 42 6 1 21 117 118 119 120";
         assert_eq!(all_different().line(), line);
         assert_eq!(StatusNumbers::default().line(), format!("status{}", " 0".repeat(23)));
     }

@@ -69,8 +69,8 @@ mod tests {
     fn the_listed_cases_hold_and_reach_everything() {
         let vectors = build().unwrap();
         assert!(vectors.script.len() < 3_400_000);
-        assert!(Replay::of(&vectors.script).count() < 82_000);
-        assert!(vectors.text.len() < 4_400_000);
+        assert!(Replay::of(&vectors.script).count() < 87_000);
+        assert!(vectors.text.len() < 4_700_000);
         assert!(samples(&vectors.script) < 3_000_000);
     }
 

@@ -43,7 +43,7 @@ pub const SIZE: usize = KEPT_CYCLE + 1;
 pub fn is_right(item: Item) -> bool {
     sheet::is_right(item)
         && item::is_switch(item[CHANNEL])
-        && item[REASON] < 6
+        && item[REASON] < 7
         && item::is_switch(item[KEPT])
 }
 
@@ -82,6 +82,7 @@ fn reason_of(number: u8) -> Reason {
         3 => Reason::Missed(Miss::OtherWords),
         4 => Reason::Missed(Miss::SyncOrStartup),
         5 => Reason::Missed(Miss::NullFrame),
+        6 => Reason::SecondGoodFrame,
         _ => Reason::NoReason,
     }
 }
@@ -131,6 +132,7 @@ fn number_of(reason: Reason) -> u64 {
     match reason {
         Reason::NoReason => 0,
         Reason::Missed(miss) => number_of_miss(miss),
+        Reason::SecondGoodFrame => 6,
     }
 }
 

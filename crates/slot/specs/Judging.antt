@@ -114,6 +114,13 @@ reasonBy (tested.Missed miss) = reason.Missed miss
 abbrev pub isReason : Reason → Bool
 isReason reason.NoReason = false
 isReason (reason.Missed miss) = true
+isReason reason.SecondGoodFrame = true
+
+-- Reason (f), which no test gives: "a later frame that passes all tests" (02, C-15).
+abbrev pub isSecondGoodFrame : Reason → Bool
+isSecondGoodFrame reason.NoReason = false
+isSecondGoodFrame (reason.Missed miss) = false
+isSecondGoodFrame reason.SecondGoodFrame = true
 
 -- A frame, and not the absence of one.
 abbrev pub isFrame : Kept → Bool
@@ -125,11 +132,11 @@ abbrev pub headerKept : Kept → Header
 headerKept Nothing = noHeader
 headerKept (Frame header) = header
 
--- "keeps the first reason".
+-- "keeps the first reason"; (f) comes in "unless a reason is kept already".
 abbrev pub firstReason : Reason → Reason → Reason
 firstReason old new = cond (isReason old) old new
 
--- "the first such frame's header fields are kept .. later ones change nothing".
+-- "the first such frame's header fields are kept", and "The first frame stays the kept one".
 abbrev pub firstKept : Kept → Kept → Kept
 firstKept old new = cond (isFrame old) old new
 

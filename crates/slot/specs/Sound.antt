@@ -11,7 +11,7 @@ use Rattle.header.specs.Refusals.{startupWithoutSync}
 use Rattle.slot.specs.declared.status.Kept.{Kept}
 use Rattle.slot.specs.declared.status.Kept.the-variants.{Nothing, Frame}
 use Rattle.slot.specs.declared.status.Status.{Status}
-use Rattle.slot.specs.Judging.{Place, placeOf, firstMiss, isPassed, isReason, isFrame, hasArrival}
+use Rattle.slot.specs.Judging.{Place, placeOf, firstMiss, isPassed, isReason, isSecondGoodFrame, isFrame, hasArrival}
 use Rattle.slot.specs.Opening.{openingRefusals}
 
 -- "its settings, channel, slot and cycle would open a slot".
@@ -35,10 +35,16 @@ abbrev pub exactlyWith : Bool → Bool → Bool
 exactlyWith true b = b
 exactlyWith false b = not b
 
--- "A slot status is sound if": the five clauses of 01, in their order.
+-- "only with".
+abbrev pub onlyWith : Bool → Bool → Bool
+onlyWith true b = b
+onlyWith false b = true
+
+-- "A slot status is sound if": the clauses of 01, in their order, and before the last that of 02 (C-15), "(f) only with "valid"".
 abbrev pub sound : Status → Bool
 sound s =
     wouldOpen (placeOf s)
     && (exactlyWith (s .«content_error») (isReason (s .reason))
     && (exactlyWith (s .valid) (isFrame (s .kept))
-    && (keepsWell (placeOf s) (s .kept) && exactlyWith (s .conflict) (s .«own_sending» && hasArrival s))))
+    && (keepsWell (placeOf s) (s .kept)
+    && (onlyWith (isSecondGoodFrame (s .reason)) (s .valid) && exactlyWith (s .conflict) (s .«own_sending» && hasArrival s)))))

@@ -7,7 +7,8 @@ use crate::status::Kept;
 use crate::status::Status;
 use header::Header;
 
-// Soundness as 01 writes it, clause by clause. It is no stricter: refusal 23 is given exactly where a status is not sound.
+// Soundness as 01 writes it, clause by clause, with that of 02 (C-15) on reason (f). It is no stricter: refusal 23 is given exactly where a
+// status is not sound.
 pub fn is_sound(status: Status) -> bool
     ensures { λ r. ⌜ r ≡ sound status ⌝ }
 {
@@ -23,6 +24,10 @@ pub fn is_sound(status: Status) -> bool
         return false;
     }
     if !keeps_well(status, kept) {
+        return false;
+    }
+    let is_second = reason.is_second_good_frame();
+    if is_second & !status.valid {
         return false;
     }
     let is_conflict = status.own_sending & status.has_arrival();

@@ -1,6 +1,6 @@
 // What is known of a slot: how it was opened, and what happened in it.
 ghost use mathlib.Core.Path.{_≡_};
-ghost use Rattle.slot.specs.Judging.{fresh as Judging·fresh, noStatus, isPassed, reasonBy, isReason, isFrame, headerKept, firstReason, firstKept, hasArrival};
+ghost use Rattle.slot.specs.Judging.{fresh as Judging·fresh, noStatus, isPassed, reasonBy, isReason, isSecondGoodFrame, isFrame, headerKept, firstReason, firstKept, hasArrival};
 use base_types::Channel;
 use base_types::Cycle;
 use base_types::Slot;
@@ -27,10 +27,13 @@ pub enum Tested {
     Missed(Miss),
 }
 
-// The content reason that a slot keeps, or none. Only `Tested::reason` makes one of what the tests give.
+// The content reason that a slot keeps, or none.
 pub enum Reason {
     NoReason,
+    // (a) to (e). Only `Tested::reason` makes one of what the tests give.
     Missed(Miss),
+    // (f), which no test gives: a frame passed all tests after another had passed (02, C-15).
+    SecondGoodFrame,
 }
 
 // The header of the first frame that missed no test, or none.
@@ -85,6 +88,18 @@ impl Reason {
         match self {
             Reason::NoReason => false,
             Reason::Missed(_) => true,
+            Reason::SecondGoodFrame => true,
+        }
+    }
+
+    // Reason (f).
+    pub fn is_second_good_frame(self) -> bool
+        ensures { λ r. ⌜ r ≡ isSecondGoodFrame self ⌝ }
+    {
+        match self {
+            Reason::NoReason => false,
+            Reason::Missed(_) => false,
+            Reason::SecondGoodFrame => true,
         }
     }
 

@@ -10,7 +10,7 @@ use Rattle.slot.specs.declared.status.Status.{Status}
 use Rattle.slot.specs.Judging.{Place, placeOf, fresh}
 use Rattle.slot.specs.Sound.{sound}
 use Rattle.slot_events.specs.Effect.{Event, Brought, brings, after}
-use Rattle.slot_claims.specs.Histories.{Some, First}
+use Rattle.slot_claims.specs.Histories.{Some, First, FirstIs}
 use Rattle.slot_claims.proofs.SoundCalls.{after-sound}
 use Rattle.slot_claims.proofs.SequenceLaws.{Behind, none-of-none, some-here, some-later, some-cases, first-here, first-later}
 
@@ -118,7 +118,7 @@ module _ {A : Type 0} (is : A → Bool) (keeps : Status → A) (gives : Status �
   pub first-exactly : (P : List Event → Event → Type 0) (p : Place) (events : List Event) → is (keeps (fresh p)) ≡ false
       → Exactly givesOne (fresh p) P → (a : A) → is a ≡ true
       → (Q : List Event → Event → Type 0) → ((before : List Event) (e : Event) → (gives (end p before) (brings p e) ≡ a) ↔ Q before e)
-      → (keeps (end p events) ≡ a) ↔ ((before : List Event) × (e : Event) × First P events before e × Q before e)
+      → (keeps (end p events) ≡ a) ↔ FirstIs P Q events
   first-exactly P p events none same a there Q meant = (
     λ k.
         let r = kept-first P (fresh p) same events a there none k in

@@ -1,38 +1,31 @@
 -- The claims about sequences of events.
 use mathlib.Core.Path.{_≡_, refl, sym, ap, _∙_, subst}
-use mathlib.Core.Bool.{Bool, true, false, not}
+use mathlib.Core.Bool.{Bool, true, false, false≢true, not, _&&_, cond}
 use mathlib.Core.List.{List, [], _∷_}
-use mathlib.Core.Logic.{_↔_, Iff·symm, Iff·trans}
+use mathlib.Core.Logic.{inl, inr, _↔_, Iff·symm, Iff·trans}
 use Rattle.refusal.specs.Refusal.{first}
 use Rattle.refusal.proofs.FirstLaws.{first-skip, first-end, if-accepted}
+use Rattle.slot.specs.declared.status.Miss.{Miss}
 use Rattle.slot.specs.declared.status.Reason.{Reason}
 use Rattle.slot.specs.declared.status.Reason.the-variants as reason
 use Rattle.slot.specs.declared.status.Kept.{Kept}
 use Rattle.slot.specs.declared.status.Kept.the-variants as kept
 use Rattle.slot.specs.declared.status.Status.{Status}
-use Rattle.slot.specs.Judging.{Place, placeOf, placeBy, fresh, noStatus, isReason, isFrame, hasArrival}
+use Rattle.slot.specs.Judging.{Place, placeOf, placeBy, fresh, noStatus, isReason, isSecondGoodFrame, isFrame, hasArrival}
 use Rattle.slot.specs.Opening.{openingRefusals, Told}
 use Rattle.slot.specs.Sound.{sound}
-use Rattle.slot_events.specs.Effect.{Event, boundaryActivity, ownSending, brings, after}
+use Rattle.slot_events.specs.Effect.{Event, Brought, boundaryActivity, ownSending, brings, reasonIn, after}
 use Rattle.slot_events.specs.Events.{eventRefusals}
-use Rattle.slot_claims.specs.Histories.{Arrives, ArrivesRefused, ArrivesMissing, ArrivesPassing, Misses, PassesAll, AnyTime, Some, Occurs, History, HistoryOne, Calls, NoneRefused, Histories}
+use Rattle.slot_claims.specs.Histories.{Arrives, ArrivesRefused, ArrivesMissing, ArrivesPassing, PassesAll, AnyTime, Some, FirstIs, Occurs, PassesAgain, GivesReason, History, HistoryOne, Calls, NoneRefused, Histories}
 use Rattle.numbers.proofs.Truth.{both-true, true-both, same-true}
-use Rattle.numbers.proofs.Walk.{cases}
-use Rattle.slot_claims.proofs.ReasonLaws.{no-reason, miss-there, frame-there, no-frame}
+use Rattle.numbers.proofs.Walk.{cases, came}
+use Rattle.slot_claims.proofs.ReasonLaws.{no-reason, which-reason, frame-there, no-frame}
 use Rattle.slot.proofs.SoundLaws.{Clauses, clauses}
 use Rattle.slot_claims.proofs.SoundCalls.{fits, has-after, after-sound, fresh-sound}
 use Rattle.slot_claims.proofs.Brings.{arrives-exactly, refused-exactly, misses-exactly, passes-exactly, boundary-exactly, sending-exactly}
 use Rattle.slot_claims.proofs.AfterAll.{afterAll, all-place, all-sound, end, flag-exactly, first-exactly}
 
 -- ---- what is exactly so
-
-misses-some : (p : Place) (e : Event) → (isReason (brings p e .reason) ≡ true) ↔ Misses p e
-misses-some p e = (
-  λ t.
-      let m = miss-there (brings p e .reason) t in
-      (m .0, misses-exactly p (m .0) e .0 (m .1)),
-  λ m. ap isReason (misses-exactly p (m .0) e .1 (m .1)),
-)
 
 passes-all : (p : Place) (e : Event) → (isFrame (brings p e .kept) ≡ true) ↔ PassesAll p e
 passes-all p e = (
@@ -42,7 +35,68 @@ passes-all p e = (
   λ a. ap isFrame (passes-exactly p (a .0) e .1 (a .1)),
 )
 
+-- "valid" at the end
+valid-exactly : (p : Place) (events : List Event) → (end p events .valid ≡ true) ↔ Some (AnyTime (PassesAll p)) events
+valid-exactly p events =
+    flag-exactly (λ s. s .valid) (λ s b. isFrame (b .kept)) (λ s e. refl) (AnyTime (PassesAll p)) p events refl (λ before. passes-all p)
+
+-- ---- the content reason
+
+-- that of a miss, or (f)
+module _ (p : Place) (before : List Event) (e : Event) where
+  abbrev b : Brought
+  b = brings p e
+
+  abbrev given : Reason
+  given = reasonIn (end p before) b
+
+  -- the frame is a later one
+  abbrev isLater : Bool
+  isLater = isFrame (b .kept) && end p before .valid
+
+  later-exactly : (isLater ≡ true) ↔ PassesAgain p before e
+  later-exactly = (
+    λ t.
+        let both = both-true (isFrame (b .kept)) (end p before .valid) t in
+        (valid-exactly p before .0 (both .1), passes-all p e .0 (both .0)),
+    λ again. true-both (isFrame (b .kept)) (end p before .valid) (passes-all p e .1 (again .1)) (valid-exactly p before .1 (again .0)),
+  )
+
+  second-exactly : (given ≡ reason.SecondGoodFrame) ↔ PassesAgain p before e
+  second-exactly = (λ t. later-exactly .0 (there isLater t), λ again. ap (λ (x : Bool). cond x reason.SecondGoodFrame (b .reason)) (later-exactly .1 again))
+    where
+      there : (later : Bool) → cond later reason.SecondGoodFrame (b .reason) ≡ reason.SecondGoodFrame → later ≡ true
+      there true t = refl
+      there false t = absurd (false≢true (sym (fits p e .test) ∙ ap isSecondGoodFrame t))
+
+  missed-exactly : (miss : Miss) → (given ≡ reason.Missed miss) ↔ ArrivesMissing p miss e
+  missed-exactly miss = (λ t. misses-exactly p miss e .0 (there isLater t), λ m. back (misses-exactly p miss e .1 m))
+    where
+      there : (later : Bool) → cond later reason.SecondGoodFrame (b .reason) ≡ reason.Missed miss → b .reason ≡ reason.Missed miss
+      there true t = absurd (false≢true (sym (ap isSecondGoodFrame t)))
+      there false t = t
+
+      -- a frame that misses a test is not kept
+      back : b .reason ≡ reason.Missed miss → given ≡ reason.Missed miss
+      back t =
+          let not-kept : isFrame (b .kept) ≡ false = sym (ap (λ (r : Reason). isReason r && isFrame (b .kept)) t) ∙ fits p e .alone in
+          rw (not-kept, t)
+
+  gives-exactly : (isReason given ≡ true) ↔ GivesReason p before e
+  gives-exactly = (
+    λ t.
+        came (which-reason given t) (λ m. inl (m .0, missed-exactly (m .0) .0 (m .1))) (λ again. inr (second-exactly .0 again)),
+    λ g. came g (λ m. ap isReason (missed-exactly (m .0) .1 (m .1))) (λ again. ap isReason (second-exactly .1 again)),
+  )
+
 module _ (p : Place) (good : sound (fresh p) ≡ true) (events : List Event) where
+  -- the reason that is kept, by what gives it
+  reason-exactly : (r : Reason) → isReason r ≡ true → (Q : List Event → Event → Type 0)
+      → ((before : List Event) (e : Event) → (given p before e ≡ r) ↔ Q before e)
+      → (end p events .reason ≡ r) ↔ FirstIs (GivesReason p) Q events
+  reason-exactly r there Q meant =
+      first-exactly isReason (λ s. s .reason) reasonIn (λ s e. refl) (GivesReason p) p events refl (gives-exactly p) r there Q meant
+
   sent-exactly : (end p events .«own_sending» ≡ true) ↔ Occurs ownSending events
   sent-exactly =
       flag-exactly (λ s. s .«own_sending») (λ s b. b .sent) (λ s e. refl) (AnyTime (λ e. e ≡ ownSending)) p events refl (λ before. sending-exactly p)
@@ -60,15 +114,10 @@ module _ (p : Place) (good : sound (fresh p) ≡ true) (events : List Event) whe
             flag-exactly (λ s. s .«syntax_error») (λ s b. b .refused) (λ s e. refl) (AnyTime (ArrivesRefused p)) p events refl
             (λ before. refused-exactly p);
         content =
-            flag-exactly (λ s. s .«content_error») (λ s b. isReason (b .reason)) (λ s e. refl) (AnyTime (Misses p)) p events refl
-            (λ before. misses-some p);
-        reason =
-            λ miss.
-            first-exactly isReason (λ s. s .reason) (λ s b. b .reason) (λ s e. refl) (AnyTime (Misses p)) p events refl (λ before. misses-some p)
-            (reason.Missed miss) refl (AnyTime (ArrivesMissing p miss)) (λ before. misses-exactly p miss);
-        valid =
-            flag-exactly (λ s. s .valid) (λ s b. isFrame (b .kept)) (λ s e. refl) (AnyTime (PassesAll p)) p events refl
-            (λ before. passes-all p);
+            flag-exactly (λ s. s .«content_error») (λ s b. isReason (reasonIn s b)) (λ s e. refl) (GivesReason p) p events refl (gives-exactly p);
+        reason = λ miss. reason-exactly (reason.Missed miss) refl (AnyTime (ArrivesMissing p miss)) (λ before e. missed-exactly p before e miss);
+        second = reason-exactly reason.SecondGoodFrame refl (PassesAgain p) (second-exactly p);
+        valid = valid-exactly p events;
         kept =
             λ h.
             first-exactly isFrame (λ s. s .kept) (λ s b. b .kept) (λ s e. refl) (AnyTime (PassesAll p)) p events refl (λ before. passes-all p)
@@ -102,12 +151,16 @@ same-thing is none only x y same =
     (λ tx. cases (is y) (λ ty. same y ty .1 refl) (λ ty. only x tx ∙ sym (only y ty)))
 
 module _ (p : Place) (events : List Event) (s t : Status) (hs : History p events s) (ht : History p events t) where
+  abbrev SameIf : Reason → Type 0
+  SameIf r = (s .reason ≡ r) ↔ (t .reason ≡ r)
+
   same-reason : s .reason ≡ t .reason
   same-reason =
       same-thing isReason reason.NoReason no-reason (s .reason) (t .reason)
       (λ r is.
-      let m = miss-there r is in
-      subst (λ (x : Reason). (s .reason ≡ x) ↔ (t .reason ≡ x)) (sym (m .1)) (Iff·trans (hs .reason (m .0)) (Iff·symm (ht .reason (m .0)))))
+      came (which-reason r is)
+      (λ m. subst SameIf (sym (m .1)) (Iff·trans (hs .reason (m .0)) (Iff·symm (ht .reason (m .0)))))
+      (λ f. subst SameIf (sym f) (Iff·trans (hs .second) (Iff·symm (ht .second)))))
 
   same-kept : s .kept ≡ t .kept
   same-kept =

@@ -1,6 +1,7 @@
 -- What the tests give, a reason and a frame: which of their cases it is.
 use mathlib.Core.Path.{_≡_, refl, sym, ap, _∙_}
 use mathlib.Core.Bool.{true, false, false≢true}
+use mathlib.Core.Logic.{_⊎_, inl, inr}
 use Rattle.header.specs.declared.Header.{Header}
 use Rattle.slot.specs.declared.status.Miss.{Miss}
 use Rattle.slot.specs.declared.status.Tested.{Tested}
@@ -9,7 +10,7 @@ use Rattle.slot.specs.declared.status.Reason.{Reason}
 use Rattle.slot.specs.declared.status.Reason.the-variants as reason
 use Rattle.slot.specs.declared.status.Kept.{Kept}
 use Rattle.slot.specs.declared.status.Kept.the-variants.{Nothing, Frame}
-use Rattle.slot.specs.Judging.{isPassed, reasonBy, isReason, isFrame}
+use Rattle.slot.specs.Judging.{isPassed, reasonBy, isReason, isSecondGoodFrame, isFrame}
 use Rattle.slot_events.specs.Effect.{keptBy}
 
 -- ---- a reason
@@ -20,15 +21,23 @@ reason-there r e none = false≢true (sym (ap isReason none) ∙ e)
 pub there-reason : (r : Reason) → (r ≡ reason.NoReason → ⊥) → isReason r ≡ true
 there-reason reason.NoReason h = absurd (h refl)
 there-reason (reason.Missed miss) h = refl
+there-reason reason.SecondGoodFrame h = refl
 
 pub no-reason : (r : Reason) → isReason r ≡ false → r ≡ reason.NoReason
 no-reason reason.NoReason e = refl
 no-reason (reason.Missed miss) e = absurd (false≢true (sym e))
+no-reason reason.SecondGoodFrame e = absurd (false≢true (sym e))
 
--- every reason is that of a missed test
-pub miss-there : (r : Reason) → isReason r ≡ true → (miss : Miss) × (r ≡ reason.Missed miss)
-miss-there reason.NoReason e = absurd (false≢true e)
-miss-there (reason.Missed miss) e = (miss, refl)
+-- every reason is that of a missed test, or (f)
+pub which-reason : (r : Reason) → isReason r ≡ true → ((miss : Miss) × (r ≡ reason.Missed miss)) ⊎ (r ≡ reason.SecondGoodFrame)
+which-reason reason.NoReason e = absurd (false≢true e)
+which-reason (reason.Missed miss) e = inl (miss, refl)
+which-reason reason.SecondGoodFrame e = inr refl
+
+pub second-there : (r : Reason) → isSecondGoodFrame r ≡ true → r ≡ reason.SecondGoodFrame
+second-there reason.NoReason e = absurd (false≢true e)
+second-there (reason.Missed miss) e = absurd (false≢true e)
+second-there reason.SecondGoodFrame e = refl
 
 -- ---- a frame
 

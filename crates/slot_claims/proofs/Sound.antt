@@ -13,7 +13,7 @@ use Rattle.slot.specs.declared.status.Tested.the-variants as tested
 use Rattle.slot.specs.declared.status.Kept.{Kept}
 use Rattle.slot.specs.declared.status.Kept.the-variants as kept
 use Rattle.slot.specs.declared.status.Status.{Status}
-use Rattle.slot.specs.Judging.{placeOf, firstMiss, isPassed, isReason, isFrame, hasArrival}
+use Rattle.slot.specs.Judging.{placeOf, firstMiss, isPassed, isReason, isSecondGoodFrame, isFrame, hasArrival}
 use Rattle.slot.specs.declared.opening.Opened.{Opened}
 use Rattle.slot.specs.declared.opening.Opening.the-variants as opening
 use Rattle.slot.specs.Opening.{openingRefusals, Told, told, OpenSays}
@@ -22,7 +22,7 @@ use Rattle.slot.proofs.OpeningLaws.{open-says}
 use Rattle.slot.proofs.SoundLaws.{Clauses, clauses, clauses-sound}
 use Rattle.slot_claims.specs.Sound.{Readable, SoundStatus, SoundExactly}
 use Rattle.slot_claims.specs.Content.{Passes}
-use Rattle.slot_claims.proofs.ReasonLaws.{reason-there, there-reason, frame-there, all-passed}
+use Rattle.slot_claims.proofs.ReasonLaws.{reason-there, there-reason, second-there, frame-there, all-passed}
 use Rattle.slot_claims.proofs.Content.{tests-exactly}
 use Rattle.numbers.proofs.Truth.{same-true, both-true, true-both, either-true, true-left, true-right}
 use Rattle.numbers.proofs.Walk.{came}
@@ -65,6 +65,7 @@ module _ (s : Status) (c : Clauses s) where
         reason = (λ t. reason-there (s .reason) (sym (c .content) ∙ t), λ h. c .content ∙ there-reason (s .reason) h);
         valid = (λ t. frame-there (s .kept) (sym (c .valid) ∙ t), λ f. c .valid ∙ ap isFrame (f .1));
         kept = kept-read;
+        second = λ e. c .second (ap isSecondGoodFrame e);
         conflict = (
           λ t.
               let p = both-true (s .«own_sending») (hasArrival s) (sym (c .conflict) ∙ t) in
@@ -94,6 +95,7 @@ module _ (s : Status) (w : SoundStatus s) where
             same-true (s .valid) (isFrame (s .kept))
             (λ t. ap isFrame (w .valid .0 t .1), λ t. w .valid .1 (frame-there (s .kept) t));
         keeps = keeps-well (s .kept) refl;
+        second = λ t. w .second (second-there (s .reason) t);
         conflict =
             same-true (s .conflict) (s .«own_sending» && hasArrival s) (
               λ t. true-both (s .«own_sending») (hasArrival s) (w .conflict .0 t .0) (one-of-three s (w .conflict .0 t .1)),

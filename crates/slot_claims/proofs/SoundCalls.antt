@@ -14,17 +14,18 @@ use Rattle.settings.specs.declared.Settings.{Settings}
 use Rattle.settings.specs.Sheet.{firstOutside}
 use Rattle.slot.specs.declared.status.Tested.{Tested}
 use Rattle.slot.specs.declared.status.Tested.the-variants as tested
+use Rattle.slot.specs.declared.status.Reason.{Reason}
 use Rattle.slot.specs.declared.status.Reason.the-variants as reason
 use Rattle.slot.specs.declared.status.Kept.the-variants as kept
 use Rattle.slot.specs.declared.status.Status.{Status}
-use Rattle.slot.specs.Judging.{Place, placeOf, placeBy, fresh, noStatus, firstMiss, isPassed, reasonBy, isReason, isFrame, hasArrival}
+use Rattle.slot.specs.Judging.{Place, placeOf, placeBy, fresh, noStatus, firstMiss, isPassed, reasonBy, isReason, isSecondGoodFrame, isFrame, hasArrival}
 use Rattle.slot.specs.Opening.{openingRefusals, Told}
 use Rattle.slot.specs.Sound.{couldBeRead, keepsWell, sound}
-use Rattle.slot_events.specs.Effect.{Event, Brought, arrival, boundaryActivity, ownSending, keptBy, isRefused, ofArrival, brings, joined, after}
+use Rattle.slot_events.specs.Effect.{Event, Brought, arrival, boundaryActivity, ownSending, keptBy, isRefused, ofArrival, brings, reasonIn, joined, after}
 use Rattle.slot_events.specs.Events.{eventRefusals}
 use Rattle.base_types.proofs.ChannelLaws.{is-a-channel}
 use Rattle.slot_claims.specs.Sound.{NoStatusUnsound, OpenedSound, EventSound}
-use Rattle.numbers.proofs.Truth.{true-both}
+use Rattle.numbers.proofs.Truth.{both-true, true-both, true-right}
 use Rattle.numbers.proofs.Walk.{cases-in}
 use Rattle.slot_claims.proofs.Readable.{read-could}
 use Rattle.slot.proofs.SoundLaws.{clauses, clauses-sound}
@@ -41,7 +42,7 @@ fresh-sound settings channel slot cycle none =
     let passed = not-refused (openingRefusals settings channel slot cycle) refl none in
     let opens : first (openingRefusals settings (numberOf (channelOf channel)) slot cycle) ≡ 0 =
     first-skip 17 _ (passed 17) ∙ first-skip 1 _ (is-a-channel (channelOf channel)) ∙ first-skip 9 _ (passed 9) ∙ first-skip 11 _ (passed 11) ∙ first-end in
-    clauses-sound (fresh p) (record { opens = eq-eqb _ 0 opens; content = refl; valid = refl; keeps = refl; conflict = refl })
+    clauses-sound (fresh p) (record { opens = eq-eqb _ 0 opens; content = refl; valid = refl; keeps = refl; second = λ e. absurd (false≢true e); conflict = refl })
 
 pub opened-sound : OpenedSound
 opened-sound settings channel slot cycle r says accepted =
@@ -53,6 +54,9 @@ pub record Fits (p : Place) (b : Brought) : Type 0 where
   pub keeps : keepsWell p (b .kept) ≡ true
   -- an arrival is refused, misses a test, or passes all
   pub one : b .refused || (isReason (b .reason) || isFrame (b .kept)) ≡ b .arrived
+  -- a frame that is kept gives no reason by itself, and none gives (f)
+  pub alone : isReason (b .reason) && isFrame (b .kept) ≡ false
+  pub test : isSecondGoodFrame (b .reason) ≡ false
   -- no event is both own sending and an arrival
   pub apart : b .sent && b .arrived ≡ false
 
@@ -61,25 +65,32 @@ frame-fits p h could = by (firstMiss p h) refl
   where
     by : (t : Tested) → firstMiss p h ≡ t → Fits p (ofArrival false (reasonBy t) (keptBy t h))
     by tested.Passed e =
-        record { keeps = true-both (couldBeRead h) (isPassed (firstMiss p h)) could (ap isPassed e); one = refl; apart = refl }
-    by (tested.Missed miss) e = record { keeps = refl; one = refl; apart = refl }
+        record { keeps = true-both (couldBeRead h) (isPassed (firstMiss p h)) could (ap isPassed e); one = refl; alone = refl; test = refl; apart = refl }
+    by (tested.Missed miss) e = record { keeps = refl; one = refl; alone = refl; test = refl; apart = refl }
 
 pub fits : (p : Place) (e : Event) → Fits p (brings p e)
-fits p boundaryActivity = record { keeps = refl; one = refl; apart = refl }
-fits p ownSending = record { keeps = refl; one = refl; apart = refl }
+fits p boundaryActivity = record { keeps = refl; one = refl; alone = refl; test = refl; apart = refl }
+fits p ownSending = record { keeps = refl; one = refl; alone = refl; test = refl; apart = refl }
 fits p (arrival bytes) =
     let h = headerRead bytes in
     cases-in (λ b. Fits p (cond b (ofArrival true reason.NoReason kept.Nothing) (ofArrival false (reasonBy (firstMiss p h)) (keptBy (firstMiss p h) h))))
     (isRefused (p .channel) bytes)
-    (λ t. record { keeps = refl; one = refl; apart = refl })
+    (λ t. record { keeps = refl; one = refl; alone = refl; test = refl; apart = refl })
     (λ t. frame-fits p h (read-could (p .channel) bytes (eqb-true (first (refusalsOn (p .channel) bytes)) 0 (not-false _ t))))
 
 -- the three flags after it: an arrival sets one
 pub has-after : (s : Status) (b : Brought) → Fits (placeOf s) b → hasArrival (joined s b) ≡ b .arrived || hasArrival s
 has-after s b f =
-    parted (b .refused) (isReason (b .reason)) (isFrame (b .kept)) (s .«syntax_error») (s .«content_error») (s .valid)
+    parted (b .refused) (isReason (reasonIn s b)) (isFrame (b .kept)) (s .«syntax_error») (s .«content_error») (s .valid)
+    ∙ ap (λ (x : Bool). (b .refused || x) || hasArrival s) (as-brought (isFrame (b .kept)) (s .valid) (b .reason))
     ∙ ap (λ (x : Bool). x || hasArrival s) (f .one)
   where
+    -- a later frame gives a reason, and "valid" as well
+    as-brought : (frame valid : Bool) (r : Reason) → isReason (cond (frame && valid) reason.SecondGoodFrame r) || frame ≡ isReason r || frame
+    as-brought true true r = sym (or-true (isReason r))
+    as-brought true false r = refl
+    as-brought false valid r = refl
+
     parted : (r c v syntax content valid : Bool) → (r || syntax) || ((c || content) || (v || valid)) ≡ (r || (c || v)) || (syntax || (content || valid))
     parted true c v syntax content valid = refl
     parted false true v true content valid = refl
@@ -109,15 +120,29 @@ module _ {A : Type 0} (is : A → Bool) (old new : A) where
   first-has : (has : A → Bool) → has old ≡ true → has new ≡ true → has (cond (is old) old new) ≡ true
   first-has has eo en = cases-in (λ b. has (cond b old new) ≡ true) (is old) (λ t. eo) (λ t. en)
 
+-- (f) comes where "valid" stood before, or is kept where it stood
+second-after : (s : Status) (b : Brought) → (isSecondGoodFrame (s .reason) ≡ true → s .valid ≡ true) → isSecondGoodFrame (b .reason) ≡ false
+    → isSecondGoodFrame (joined s b .reason) ≡ true → joined s b .valid ≡ true
+second-after s b before test t = true-right (isFrame (b .kept)) (s .valid) (stood (isReason (s .reason)) t)
+  where
+    new : (both : Bool) → (both ≡ true → s .valid ≡ true) → isSecondGoodFrame (cond both reason.SecondGoodFrame (b .reason)) ≡ true → s .valid ≡ true
+    new true f e = f refl
+    new false f e = absurd (false≢true (sym test ∙ e))
+
+    stood : (old : Bool) → isSecondGoodFrame (cond old (s .reason) (reasonIn s b)) ≡ true → s .valid ≡ true
+    stood true e = before e
+    stood false e = new (isFrame (b .kept) && s .valid) (λ both. both-true (isFrame (b .kept)) (s .valid) both .1) e
+
 joined-sound : (s : Status) (b : Brought) → sound s ≡ true → Fits (placeOf s) b → sound (joined s b) ≡ true
 joined-sound s b good f =
     let c = clauses s good in
     clauses-sound (joined s b)
     (record {
       opens = c .opens;
-      content = ap (_||_ (isReason (b .reason))) (c .content) ∙ sym (first-is isReason (s .reason) (b .reason));
+      content = ap (_||_ (isReason (reasonIn s b))) (c .content) ∙ sym (first-is isReason (s .reason) (reasonIn s b));
       valid = ap (_||_ (isFrame (b .kept))) (c .valid) ∙ sym (first-is isFrame (s .kept) (b .kept));
       keeps = first-has isFrame (s .kept) (b .kept) (keepsWell (placeOf s)) (c .keeps) (f .keeps);
+      second = second-after s b (c .second) (f .test);
       conflict =
           ap (λ (x : Bool). b .arrived && s .«own_sending» || (b .sent && hasArrival s || x)) (c .conflict)
           ∙ conflict-after (b .arrived) (b .sent) (s .«own_sending») (hasArrival s) (f .apart)

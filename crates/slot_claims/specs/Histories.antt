@@ -5,7 +5,7 @@ use Prim.Native.Nat.{ℕ}
 use mathlib.Core.Path.{_≡_}
 use mathlib.Core.Bool.{true}
 use mathlib.Core.List.{List, [], _∷_, _++_}
-use mathlib.Core.Logic.{_↔_}
+use mathlib.Core.Logic.{_⊎_, _↔_}
 use Rattle.base_types.specs.declared.id.Slot.{Slot}
 use Rattle.base_types.specs.declared.cycle.Cycle.{Cycle}
 use Rattle.header.specs.declared.Header.{Header}
@@ -14,7 +14,7 @@ use Rattle.frame.specs.Read.{ReadOnSays}
 use Rattle.settings.specs.declared.Settings.{Settings}
 use Rattle.slot.specs.declared.status.Miss.{Miss}
 use Rattle.slot.specs.declared.status.Tested.the-variants as tested
-use Rattle.slot.specs.declared.status.Reason.the-variants.{Missed}
+use Rattle.slot.specs.declared.status.Reason.the-variants.{Missed, SecondGoodFrame}
 use Rattle.slot.specs.declared.status.Kept.the-variants.{Frame}
 use Rattle.slot.specs.declared.status.Status.{Status}
 use Rattle.slot.specs.declared.opening.Opened.{Opened}
@@ -70,23 +70,35 @@ pub record First (P : List Event → Event → Type 0) (events before : List Eve
   pub holds : P before e
   pub earlier : Some P before → ⊥
 
+-- The first event of which P holds is one of which Q holds too.
+abbrev pub FirstIs : (P Q : List Event → Event → Type 0) → List Event → Type 0
+FirstIs P Q events = (before : List Event) × (e : Event) × First P events before e × Q before e
+
 -- This event is among them.
 abbrev pub Occurs : Event → List Event → Type 0
 Occurs e events = Some (AnyTime (λ x. x ≡ e)) events
 
--- 01's sentences over all events of a slot that was opened so.
+-- "some frame passed after another had passed": this event is such a frame (02, C-15). The two may be equal.
+abbrev pub PassesAgain : Place → List Event → Event → Type 0
+PassesAgain p before e = Some (AnyTime (PassesAll p)) before × PassesAll p e
+
+-- This event gives a content reason: a frame that misses a test, or one that passes after another had passed.
+abbrev pub GivesReason : Place → List Event → Event → Type 0
+GivesReason p before e = Misses p e ⊎ PassesAgain p before e
+
+-- 01's sentences over all events of a slot that was opened so, with that of 02 (C-15).
 pub record History (p : Place) (events : List Event) (s : Status) : Type 0 where
   pub place : placeOf s ≡ p
   -- Syntax error exactly when some arrival was refused.
   pub syntax : (s .«syntax_error» ≡ true) ↔ Some (AnyTime (ArrivesRefused p)) events
-  -- Content error exactly when some frame missed a test, and the reason is that of the first such.
-  pub content : (s .«content_error» ≡ true) ↔ Some (AnyTime (Misses p)) events
-  pub reason : (miss : Miss)
-      → (s .reason ≡ Missed miss) ↔ ((before : List Event) × (e : Event) × First (AnyTime (Misses p)) events before e × ArrivesMissing p miss e)
+  -- Content error exactly when some frame missed a test or some frame passed after another had passed. The reason is that of the first such
+  -- event: the test that it missed, or (f).
+  pub content : (s .«content_error» ≡ true) ↔ Some (GivesReason p) events
+  pub reason : (miss : Miss) → (s .reason ≡ Missed miss) ↔ FirstIs (GivesReason p) (AnyTime (ArrivesMissing p miss)) events
+  pub second : (s .reason ≡ SecondGoodFrame) ↔ FirstIs (GivesReason p) (PassesAgain p) events
   -- Valid exactly when some frame passed all tests, and the kept header is that of the first such.
   pub valid : (s .valid ≡ true) ↔ Some (AnyTime (PassesAll p)) events
-  pub kept : (h : Header)
-      → (s .kept ≡ Frame h) ↔ ((before : List Event) × (e : Event) × First (AnyTime (PassesAll p)) events before e × ArrivesPassing p h e)
+  pub kept : (h : Header) → (s .kept ≡ Frame h) ↔ FirstIs (AnyTime (PassesAll p)) (AnyTime (ArrivesPassing p h)) events
   -- Boundary violation exactly when there was boundary activity.
   pub boundary : (s .«boundary_violation» ≡ true) ↔ Occurs boundaryActivity events
   -- Own sending exactly when it occurred, and conflict exactly when own sending and an arrival both did, in whatever order.

@@ -1,7 +1,7 @@
 -- Claims about soundness. 01: "A slot status is sound if its settings, channel, slot and cycle would open a slot, a content reason stands
 -- exactly with "content error", a frame is kept exactly with "valid", is one that a read could give and passes (a) to (e), and
 -- "conflict" stands exactly when own sending is recorded and one of "syntax error", "content error" and "valid" stands", and "Every accepted
--- call returns a sound state."
+-- call returns a sound state." 02 (C-15) adds: "(f) only with "valid"".
 use Prim.Native.Nat.{ℕ}
 use mathlib.Core.Path.{_≡_}
 use mathlib.Core.Bool.{true, false}
@@ -16,7 +16,7 @@ use Rattle.header.specs.declared.Header.{Header}
 use Rattle.frame.specs.declared.Reading.the-variants.{Accepted}
 use Rattle.frame.specs.Read.{ReadOnSays}
 use Rattle.settings.specs.declared.Settings.{Settings}
-use Rattle.slot.specs.declared.status.Reason.the-variants.{NoReason}
+use Rattle.slot.specs.declared.status.Reason.the-variants.{NoReason, SecondGoodFrame}
 use Rattle.slot.specs.declared.status.Kept.the-variants.{Frame}
 use Rattle.slot.specs.declared.status.Status.{Status}
 use Rattle.slot.specs.declared.opening.Opened.{Opened}
@@ -34,12 +34,13 @@ use Rattle.slot_claims.specs.Content.{Passes}
 abbrev pub Readable : Channel → Header → Type 0
 Readable channel header = (bytes : List ℕ) × AreBytes bytes × ReadOnSays channel bytes (Accepted header)
 
--- 01's sentence in words.
+-- 01's sentence in words, with 02's.
 pub record SoundStatus (s : Status) : Type 0 where
   pub opens : (r : Opened) × OpenSays (s .settings) (numberOf (s .channel)) (s .slot) (s .cycle) r × (opening.told (r .answer) .number ≡ 0)
   pub reason : (s .«content_error» ≡ true) ↔ (s .reason ≡ NoReason → ⊥)
   pub valid : (s .valid ≡ true) ↔ ((h : Header) × (s .kept ≡ Frame h))
   pub kept : (h : Header) → s .kept ≡ Frame h → Readable (s .channel) h × Passes (placeOf s) h
+  pub second : s .reason ≡ SecondGoodFrame → s .valid ≡ true
   pub conflict : (s .conflict ≡ true)
       ↔ (s .«own_sending» ≡ true) × ((s .«syntax_error» ≡ true) ⊎ ((s .«content_error» ≡ true) ⊎ (s .valid ≡ true)))
 

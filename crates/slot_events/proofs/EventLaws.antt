@@ -30,6 +30,7 @@ use Rattle.slot_events.specs.Events.{eventRefusals, EventSays}
 pub first-reason-none : (r : Reason) → firstReason r reason.NoReason ≡ r
 first-reason-none reason.NoReason = refl
 first-reason-none (reason.Missed miss) = refl
+first-reason-none reason.SecondGoodFrame = refl
 
 pub first-kept-none : (k : Kept) → firstKept k kept.Nothing ≡ k
 first-kept-none kept.Nothing = refl

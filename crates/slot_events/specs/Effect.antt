@@ -9,7 +9,7 @@ use Rattle.header.specs.declared.Header.{Header}
 use Rattle.frame.specs.Read.{headerRead, refusalsOn}
 use Rattle.slot.specs.declared.status.Tested.{Tested}
 use Rattle.slot.specs.declared.status.Reason.{Reason}
-use Rattle.slot.specs.declared.status.Reason.the-variants.{NoReason}
+use Rattle.slot.specs.declared.status.Reason.the-variants.{NoReason, SecondGoodFrame}
 use Rattle.slot.specs.declared.status.Kept.{Kept}
 use Rattle.slot.specs.declared.status.Kept.the-variants.{Nothing, Frame}
 use Rattle.slot.specs.declared.status.Status.{Status}
@@ -29,7 +29,7 @@ pub record Brought : Type 0 where
   pub arrived : Bool
   -- Reading them on the slot's channel refuses them.
   pub refused : Bool
-  -- The reason that a frame gives, and the header of one that passes all tests.
+  -- The reason that a miss gives, and the header of a frame that passes all tests.
   pub reason : Reason
   pub kept : Kept
   -- Activity at a boundary.
@@ -60,6 +60,11 @@ brings p ownSending = record { arrived = false; refused = false; reason = NoReas
 
 -- ---- what it leaves
 
+-- The content reason that an event gives in a slot. "a later frame that passes all tests sets "content error" with content reason (f)" (02,
+-- C-15): it is later where "valid" stood before it.
+abbrev pub reasonIn : Status → Brought → Reason
+reasonIn s b = cond (isFrame (b .kept) && s .valid) SecondGoodFrame (b .reason)
+
 -- "Flags never clear within a slot": each stands if the event sets it or if it stood before.
 abbrev pub joined : Status → Brought → Status
 joined s b =
@@ -70,8 +75,8 @@ joined s b =
       cycle = s .cycle;
       -- "A read refusal sets "syntax error"."
       «syntax_error» = b .refused || s .«syntax_error»;
-      -- "A miss sets "content error"".
-      «content_error» = isReason (b .reason) || s .«content_error»;
+      -- "A miss sets "content error"", and so does a later frame that passes.
+      «content_error» = isReason (reasonIn s b) || s .«content_error»;
       -- "Boundary activity sets "boundary violation"."
       «boundary_violation» = b .atBoundary || s .«boundary_violation»;
       -- ""Conflict" is set once own sending and any arrival have both occurred, in either order."
@@ -79,7 +84,7 @@ joined s b =
       -- "No miss: .. "valid" set".
       valid = isFrame (b .kept) || s .valid;
       «own_sending» = b .sent || s .«own_sending»;
-      reason = firstReason (s .reason) (b .reason);
+      reason = firstReason (s .reason) (reasonIn s b);
       kept = firstKept (s .kept) (b .kept);
     }
 

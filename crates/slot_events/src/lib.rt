@@ -5,7 +5,7 @@
 ghost use mathlib.Core.Path.{_≡_};
 ghost use mathlib.Core.Bool.{false};
 ghost use Rattle.slot_events.specs.declared.Recording.the-variants.{Recorded, NotSound};
-ghost use Rattle.slot_events.specs.Effect.{arrival, boundaryActivity, ownSending, keptBy, ofArrival, joined};
+ghost use Rattle.slot_events.specs.Effect.{arrival, boundaryActivity, ownSending, keptBy, ofArrival, reasonIn, joined};
 ghost use Rattle.slot_events.specs.Events.{told, EventSays};
 use frame::Reading;
 use header::Header;
@@ -110,7 +110,19 @@ fn kept_by(tested: Tested, header: Header) -> Kept
     Kept::Frame(header)
 }
 
-// The status after an arrival, by the reason that it gives and by the frame to keep. Of an arrival that is refused only the syntax
+// The reason that an arrival gives in this slot: that of the test that it misses, or (f) where it passes all and another had passed before
+// it. That one had, "valid" tells, as it stands before this arrival.
+fn reason_in(status: Status, reason: Reason, kept: Kept) -> Reason
+    ensures { λ r. ⌜ r ≡ reasonIn status (ofArrival false reason kept) ⌝ }
+{
+    let is_passed = kept.is_frame();
+    if is_passed & status.valid {
+        return Reason::SecondGoodFrame;
+    }
+    reason
+}
+
+// The status after an arrival, by the reason of a miss and by the frame to keep. Of an arrival that is refused only the syntax
 // error is still to be set.
 fn with_arrival(status: Status, reason: Reason, kept: Kept) -> Status
     ensures { λ r. ⌜ r ≡ joined status (ofArrival false reason kept) ⌝ }
@@ -121,7 +133,8 @@ fn with_arrival(status: Status, reason: Reason, kept: Kept) -> Status
     let cycle = status.cycle;
     let first_reason = status.reason;
     let first_kept = status.kept;
-    let is_missed = reason.is_reason();
+    let given = reason_in(status, reason, kept);
+    let gives_reason = given.is_reason();
     let is_passed = kept.is_frame();
     Status {
         settings,
@@ -129,12 +142,12 @@ fn with_arrival(status: Status, reason: Reason, kept: Kept) -> Status
         slot,
         cycle,
         syntax_error: status.syntax_error,
-        content_error: is_missed | status.content_error,
+        content_error: gives_reason | status.content_error,
         boundary_violation: status.boundary_violation,
         conflict: status.own_sending | status.conflict,
         valid: is_passed | status.valid,
         own_sending: status.own_sending,
-        reason: first_reason.or_later(reason),
+        reason: first_reason.or_later(given),
         kept: first_kept.or_later(kept),
     }
 }

@@ -7,7 +7,7 @@ use crate::frame::{Indicators, HIGHEST_ID, MOST_WORDS};
 use crate::history::{play_opened, Happening};
 use crate::plan::Plan;
 use crate::random::Random;
-use crate::reason::Reason;
+use crate::reason::Test;
 use crate::scene::{Kind, Scene};
 use crate::settings::{FEWEST_STATIC_SLOTS, MOST_STATIC_SLOTS, STATIC_SLOTS, STATIC_WORDS};
 
@@ -59,9 +59,9 @@ fn looking(good: Draft, look: u8) -> Draft {
 fn by_look(draft: Draft, kind: Kind, equal_words: bool) -> Happening {
     let bits = draft.indicators;
     match kind {
-        Kind::Static if !equal_words => Happening::Missing(Reason::StaticWords, draft),
-        Kind::Dynamic if bits.sync || bits.startup => Happening::Missing(Reason::DynamicSync, draft),
-        Kind::Dynamic if !bits.null_frame => Happening::Missing(Reason::DynamicNull, draft),
+        Kind::Static if !equal_words => Happening::Missing(Test::StaticWords, draft),
+        Kind::Dynamic if bits.sync || bits.startup => Happening::Missing(Test::DynamicSync, draft),
+        Kind::Dynamic if !bits.null_frame => Happening::Missing(Test::DynamicNull, draft),
         _ => Happening::Good(draft),
     }
 }
@@ -73,7 +73,7 @@ fn add_words(plan: &mut Plan, random: &mut Random, channel: Channel, kind: Kind)
             let scene = Scene { settings: fair.settings.with_field(STATIC_WORDS, field_10.into()), ..fair };
             let draft = scene.good(random).with_words(random, words);
             let happening = match kind {
-                Kind::Static if words != field_10 => Happening::Missing(Reason::StaticWords, draft),
+                Kind::Static if words != field_10 => Happening::Missing(Test::StaticWords, draft),
                 _ => Happening::Good(draft),
             };
             play_opened(plan, &scene, &[happening]);

@@ -12,6 +12,7 @@ mod measuring;
 mod midpoints;
 mod pairs;
 mod refusals;
+mod second_frames;
 mod soundness;
 mod sync_limits;
 mod two_cycles;
@@ -42,4 +43,5 @@ pub fn add(plan: &mut Plan, random: &mut Random) {
     soundness::add(plan, random);
     unlooked::add(plan, random);
     between::add(plan, random);
+    second_frames::add(plan, random);
 }

@@ -39,7 +39,7 @@ fn add_never_opened(plan: &mut Plan, random: &mut Random) {
     play_refused(plan, &zeros, frame);
 }
 
-fn play_sorts(plan: &mut Plan, random: &mut Random, scene: &Scene, sorts: &[Sort]) {
+pub(super) fn play_sorts(plan: &mut Plan, random: &mut Random, scene: &Scene, sorts: &[Sort]) {
     let history: Vec<Happening> = sorts.iter().map(|sort| Happening::any(random, scene, *sort)).collect();
     play_opened(plan, scene, &history);
 }

@@ -1,6 +1,7 @@
 //! The sixteen ways in which valid, syntax error, content error and boundary violation can stand (002 Table 9-2).
 
 use crate::channel::Channel;
+use crate::draft::Draft;
 use crate::listed_frames::{SHORT, STARTUP};
 use crate::plan::{Expected, Plan};
 use crate::script::{Command, Opening};
@@ -15,10 +16,13 @@ const CLOCK: &str = "clock 0 0 0 0 0 0 0 0 0 0 0 0 0 0 0 0 0 EVEN 0 ODD 0";
 fn happening(letter: char, channel: Channel) -> Command {
     match letter {
         'v' => Command::Arrived(SHORT.bytes(channel)),
+        // Good as well, with other bits that no header checksum covers: a null frame with the preamble bit.
+        'w' => Command::Arrived(Draft::plain(channel, 0b00010, SHORT.id, 0, SHORT.cycle).bytes()),
         // The other channel's frame can't be read.
         's' => Command::Arrived(SHORT.bytes(channel.other())),
         // ID 3 in slot 1.
         'c' => Command::Arrived(STARTUP.bytes(channel)),
+        'x' => Command::OwnSending,
         _ => Command::Boundary,
     }
 }
@@ -61,7 +65,7 @@ pub fn add(plan: &mut Plan) {
     }
 }
 
-fn add_way(plan: &mut Plan, channel: Channel, letters: &str, shown: &str) {
+pub(super) fn add_way(plan: &mut Plan, channel: Channel, letters: &str, shown: &str) {
     let opening = Opening { settings: SETTINGS, channel: channel.number(), slot: 1, cycle: 0 };
     plan.add(Command::OpenSlot(opening), Expected::line("slot 0 0"));
     for letter in letters.chars() {

@@ -8,7 +8,7 @@ use crate::history::{play_opened, play_put, Happening, Sort};
 use crate::marks::Mark;
 use crate::plan::Plan;
 use crate::random::Random;
-use crate::reason::Reason;
+use crate::reason::{Reason, Test};
 use crate::scene::{Kind, Scene};
 use crate::settings::STATIC_SLOTS;
 use crate::status_numbers::StatusNumbers;
@@ -44,11 +44,11 @@ fn add_two_misses(plan: &mut Plan, random: &mut Random, channel: Channel, kind: 
 
 /// A reason that this kind of slot can't come by is sound in it all the same, and stays as well.
 fn add_misses_after_foreign_reasons(plan: &mut Plan, random: &mut Random, channel: Channel, kind: Kind) {
-    for foreign in Reason::IN_ORDER.into_iter().filter(|reason| !kind.tests().contains(reason)) {
+    for foreign in Test::IN_ORDER.into_iter().filter(|test| !kind.tests().contains(test)) {
         for later in kind.tests() {
             let scene = Scene::fair(random, channel, kind);
             let marks = Mark::ContentError.bit();
-            let before = StatusNumbers { marks, reason: foreign.number(), ..scene.fresh() };
+            let before = StatusNumbers { marks, reason: Reason::Missed(foreign).number(), ..scene.fresh() };
             let history = [Happening::missing(random, &scene, &[*later]), Happening::Good(scene.good(random))];
             play_put(plan, &before, &history);
         }
@@ -82,13 +82,13 @@ fn add_single_bits(plan: &mut Plan, random: &mut Random, channel: Channel, kind:
         let scene = slot_of_many_bits(random, channel, kind);
         let good = scene.good(random);
         let wrong = Draft { id: good.id ^ 1 << bit, ..good };
-        play_opened(plan, &scene, &[Happening::Missing(Reason::Id, wrong)]);
+        play_opened(plan, &scene, &[Happening::Missing(Test::Id, wrong)]);
     }
     for bit in 0..CYCLE_BITS {
         let scene = slot_of_many_bits(random, channel, kind);
         let good = scene.good(random);
         let wrong = Draft { cycle: good.cycle ^ 1 << bit, ..good };
-        play_opened(plan, &scene, &[Happening::Missing(Reason::Cycle, wrong)]);
+        play_opened(plan, &scene, &[Happening::Missing(Test::Cycle, wrong)]);
     }
 }
 
@@ -114,8 +114,8 @@ enum Difference {
     Words,
 }
 
-/// Two good frames that differ in one thing: the first is kept. Three of the five bits differ in static slots only,
-/// the words in dynamic ones only.
+/// Two good frames that differ in one thing: the first is kept, and the other one marked (02 C-15). Three of the five bits
+/// differ in static slots only, the words in dynamic ones only.
 fn add_later_good(plan: &mut Plan, random: &mut Random, channel: Channel) {
     let differences = [
         (Kind::Static, Difference::Reserved),

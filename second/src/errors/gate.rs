@@ -45,7 +45,7 @@ pub fn one_of_each() -> [(String, Small); 11] {
         (&format!("room_above_{LIMIT}"), Cause::RoomAbove, bytes_of(&Command::Write(room_above))),
         (&format!("encode_room_above_{LIMIT}"), Cause::RoomAbove, bytes_of(&Command::Encode(encode_above))),
         ("wrong_switch", Cause::WrongSwitch, changed(&Command::Load(SETTINGS), SENDS_SYNC, 2)),
-        ("reason_above_5", Cause::ReasonAbove, changed(&Command::PutStatus(STATUS), REASON, 6)),
+        ("reason_above_6", Cause::ReasonAbove, changed(&Command::PutStatus(STATUS), REASON, 7)),
         ("end_inside", Cause::EndInside, bytes_of(&Command::read(0, &frame()))),
         (&format!("memory_above_{MEMORY}"), Cause::MemoryAbove, listen(memory_above)),
         (&format!("runs_above_{MOST_RUNS}"), Cause::RunsAbove, listen(many_runs(MOST_RUNS + 1, 1))),

@@ -21,6 +21,7 @@ impl Reached {
         self.add_of_ids(closing);
         self.add_seen(closing.cycle);
         self.add_far(closing);
+        self.add_closed_with_f(closing);
     }
 
     fn add_flags(&mut self, closing: &Closing) {

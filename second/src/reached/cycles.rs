@@ -15,11 +15,13 @@ impl Reached {
         }
         self.clock_from = answer.refusal().map_or(Origin::Opened, Origin::Refused);
         (self.put_clock, self.odd_opened) = (None, None);
+        self.measured_with_f.clear();
     }
 
     pub(super) fn add_put_clock(&mut self, numbers: &ClockNumbers) {
         self.clock_from = Origin::Put;
         (self.put_clock, self.odd_opened) = (Some(*numbers), None);
+        self.measured_with_f.clear();
         self.add_unlooked_of_clock(numbers);
     }
 
@@ -36,6 +38,7 @@ impl Reached {
         }
         self.odd_opened = odd.then_some(last);
         self.put_clock = None;
+        self.measured_with_f.clear();
     }
 }
 

@@ -13,6 +13,7 @@ use crate::settings::{self, DECODING_CORRECTION, STATIC_SLOTS, SYNC_ID_LIMIT};
 impl Reached {
     pub(super) fn add_measure(&mut self, times: Times, answer: &Answer) {
         self.add_times(times, answer);
+        self.add_measure_of_f(answer);
         let limit = self.held.clock.settings.field(SYNC_ID_LIMIT);
         match (answer, self.held.status.kept) {
             (Answer::Measured(Ok(deviation)), Some(frame)) => {

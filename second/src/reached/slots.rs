@@ -1,14 +1,15 @@
 //! What happens in slots, and what arrives in them.
 
 use super::choices::any;
+use super::second_frames::{Frames, MISSED};
 use super::stays::Origin;
 use super::Reached;
 use crate::answer::Answer;
 use crate::cases::{BORDERS, LOOKS};
 use crate::faults::selections;
 use crate::frame::{self, Fields, CYCLE_BITS, HIGHEST_ID, ID_BITS, MOST_WORDS};
-use crate::history::{with_conflict, Sort};
-use crate::reason::Reason;
+use crate::history::{with_conflict, Sort, Tested};
+use crate::reason::Test;
 use crate::scene::Kind;
 use crate::script::Command;
 use crate::settings::{self, STATIC_SLOTS, STATIC_WORDS};
@@ -26,14 +27,17 @@ impl Reached {
         self.status_from = answer.refusal().map_or(Origin::Opened, Origin::Refused);
         self.put_status = None;
         self.history.clear();
+        self.frames = Frames::default();
     }
 
     pub(super) fn add_put_status(&mut self, numbers: &StatusNumbers) {
         self.status_from = Origin::Put;
         self.put_status = Some(*numbers);
+        self.frames = Frames::put_with(&numbers.status());
     }
 
     pub(super) fn add_event(&mut self, command: &Command, answer: &Answer) {
+        self.add_event_on_f(command.letter(), answer);
         if answer.refusal().is_some() {
             return;
         }
@@ -50,7 +54,7 @@ impl Reached {
         let status = self.held.status.clone();
         let channel = status.channel;
         if let Ok(fields) = frame::read(channel.number(), bytes) {
-            return self.add_readable(&status, &fields);
+            return self.add_readable(&status, &fields, bytes);
         }
         let causes = frame::read_causes(channel.number(), bytes);
         self.add_of('A', format!("arrival on {channel:?} with causes for {causes:?}"));
@@ -64,11 +68,11 @@ impl Reached {
         Sort::Refused
     }
 
-    fn add_readable(&mut self, status: &SlotStatus, fields: &Fields) -> Sort {
+    fn add_readable(&mut self, status: &SlotStatus, fields: &Fields, bytes: &[u8]) -> Sort {
         let (channel, kind, missed) = (status.channel, Kind::of(status), status.misses(fields));
-        let first = missed.first().copied();
+        let (first, valid) = (missed.first().copied(), status.kept.is_some());
         match status.reason {
-            Some(reason) => self.add_of('A', format!("behind reason {reason:?}: {first:?}")),
+            Some(reason) => self.add_of('A', format!("{kind:?} behind {reason:?}, valid: {valid}: {first:?}")),
             None => self.add_of('A', format!("{kind:?} on {channel:?} misses {missed:?}")),
         }
         if let Some(kept) = &status.kept {
@@ -76,16 +80,17 @@ impl Reached {
             let (words, differing) = (fields.words.cmp(&kept.words), later ^ before);
             let flags = format!("flags {} for {}", later & differing, before & differing);
             let good = format!("{kind:?} behind good: {flags}, words {words:?}");
-            self.add_of('A', first.map_or(good, |reason| format!("behind good: {reason:?}")));
+            self.add_of('A', first.map_or(good, |test| format!("behind good: {test:?}")));
         }
         match missed[..] {
-            [Reason::Id] => self.add_of('A', format!("{kind:?} ID wrong in {}", fields.id ^ status.slot)),
-            [Reason::Cycle] => self.add_of('A', format!("{kind:?} cycle wrong in {}", fields.cycle ^ status.cycle)),
+            [Test::Id] => self.add_of('A', format!("{kind:?} ID wrong in {}", fields.id ^ status.slot)),
+            [Test::Cycle] => self.add_of('A', format!("{kind:?} cycle wrong in {}", fields.cycle ^ status.cycle)),
             _ => (),
         }
         if fields.id == status.slot && fields.cycle == status.cycle {
             self.add_look(status, fields);
         }
+        self.add_frame(*fields, bytes, first.map_or(Tested::Good, Tested::Missed));
         first.map_or(Sort::Good, |_| Sort::Missing)
     }
 
@@ -124,7 +129,6 @@ pub(super) fn required() -> Vec<String> {
     const CAUSES: &str =
         "TooFewBytes|Size, WordsAgainstSize|HeaderChecksum|WordsAgainstSize|IdRead|StartupWithoutSync|FrameChecksum";
     let [of_id, of_cycle] = [ID_BITS, CYCLE_BITS].map(|bits| any((0..bits).map(|bit| 1 << bit)));
-    let reasons = "Id|Cycle|StaticWords|DynamicSync|DynamicNull";
     let marks = any((0..64).filter(|marks| with_conflict(*marks) == *marks));
     let mut all = vec![
         format!("marks <{marks}> on <A|B>"),
@@ -138,13 +142,14 @@ pub(super) fn required() -> Vec<String> {
         "Static behind good: flags 0 for <1|2|4|8|16>, words Equal".to_string(),
         "Dynamic behind good: flags <1 for 0|2 for 0|0 for 1|0 for 2>, words Equal".to_string(),
         "Dynamic behind good: flags 0 for 0, words <Less|Greater>".to_string(),
-        format!("behind good: <{reasons}>"),
-        format!("behind reason <{reasons}>: Some(<{reasons}>)"),
-        format!("behind reason <{reasons}>: None"),
+        "behind good: <Id|Cycle|StaticWords|DynamicSync|DynamicNull>".to_string(),
         format!("<Static|Dynamic> <0|1|64|{}|{MOST_WORDS}> words against <0|{MOST_WORDS}>", MOST_WORDS - 1),
     ];
     for kind in Kind::BOTH {
         all.extend(selections(kind.tests()).iter().map(|missed| format!("{kind:?} on <A|B> misses {missed:?}")));
+        let missed = any(kind.tests().iter().map(|test| format!("Some({test:?})")));
+        all.push(format!("{kind:?} behind <{MISSED}>, valid: <false|true>: <None|{missed}>"));
+        all.push(format!("{kind:?} behind SecondGoodFrame, valid: true: <None|{missed}>"));
     }
     all.extend(borders());
     all

@@ -2,6 +2,7 @@
 
 use super::choices::any;
 use super::reader_soundness::of_reader;
+use super::second_frames::MISSED;
 use super::Reached;
 use crate::answer::Answer;
 use crate::clock::ClockState;
@@ -10,6 +11,7 @@ use crate::frame::{Fields, HIGHEST_CYCLE, HIGHEST_ID, MOST_WORDS};
 use crate::history::with_conflict;
 use crate::marks::Mark;
 use crate::reader_numbers::ReaderNumbers;
+use crate::reason::Reason;
 use crate::refusal::Refusal;
 use crate::scene::Kind;
 use crate::settings::{self, Settings, FIELDS, RATE_LIMIT, SYNC_ID_LIMIT};
@@ -35,6 +37,7 @@ fn of_status(status: &SlotStatus) -> Parts {
         (format!("cycle {cycle}"), cycle <= HIGHEST_CYCLE),
         (format!("{kind:?} content error: {content_error}, {reason:?}"), content_error == reason.is_some()),
         (format!("{kind:?} valid: {valid}, kept: {kept}"), valid == kept),
+        (format!("{kind:?} {reason:?} beside valid: {valid}"), valid || reason != Some(Reason::SecondGoodFrame)),
         (format!("marks {marks}"), with_conflict(marks) == marks),
     ]);
     parts.extend(status.kept.iter().flat_map(|kept| of_kept(status, kept)));
@@ -151,12 +154,13 @@ pub(super) fn required() -> Vec<String> {
 }
 
 /// What makes a status with a sync frame in a static slot unsound, where it is measured.
-const MEASURED: [&str; 9] = [
+const MEASURED: [&str; 10] = [
     "some field of the status",
     "Static kept misses [<Id|Cycle>]",
     "Dynamic kept misses [DynamicSync]",
     "Static valid: <false, kept: true|true, kept: false>",
-    "Static content error: <false, Some(Id)|true, None>",
+    "Static content error: <false, Some(Missed(Id))|false, Some(SecondGoodFrame)|true, None>",
+    "Static Some(SecondGoodFrame) beside valid: false",
     "marks <24|48>",
     // The second is what another number of words would give.
     "kept checksum wrong in <1|901>",
@@ -192,7 +196,7 @@ fn of_statuses() -> Vec<String> {
 }
 
 fn of_kinds() -> Vec<String> {
-    let reasons = "Id|Cycle|StaticWords|DynamicSync|DynamicNull";
+    let reasons = format!("{MISSED}|SecondGoodFrame");
     let parts = [
         format!("unsound by <Static|Dynamic> content error: false, Some(<{reasons}>)"),
         format!("sound with <Static|Dynamic> content error: true, Some(<{reasons}>)"),
@@ -200,6 +204,9 @@ fn of_kinds() -> Vec<String> {
         "sound with <Static|Dynamic> content error: false, None".to_string(),
         "unsound by <Static|Dynamic> valid: <false, kept: true|true, kept: false>".to_string(),
         "sound with <Static|Dynamic> valid: <false, kept: false|true, kept: true>".to_string(),
+        format!("sound with <Static|Dynamic> Some(<{reasons}>) beside valid: true"),
+        format!("sound with <Static|Dynamic> Some(<{MISSED}>) beside valid: false"),
+        "unsound by <Static|Dynamic> Some(SecondGoodFrame) beside valid: false".to_string(),
         format!("unsound by <Static|Dynamic> kept words <{}|255>", MOST_WORDS + 1),
         "unsound by Static kept misses [<Id|Cycle|StaticWords>]".to_string(),
         "unsound by Dynamic kept misses [<Id|Cycle|DynamicSync|DynamicNull>]".to_string(),

@@ -11,8 +11,8 @@ use crate::reader_numbers::{ReaderNumbers, LAST_PHASE};
 use crate::settings::Settings;
 use crate::status_numbers::{HeaderNumbers, StatusNumbers};
 
-/// The highest content reason that a script may name.
-const LAST_REASON: u8 = 5;
+/// The highest content reason that a script may name: (f) of 02 C-15.
+const LAST_REASON: u8 = 6;
 
 type Done = Result<(), Cause>;
 

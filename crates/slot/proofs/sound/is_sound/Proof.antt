@@ -1,10 +1,10 @@
--- The five clauses in their order: each return has those before it.
+-- The six clauses in their order: each return has those before it.
 use mathlib.Core.Path.{_≡_, sym, ap, _∙_}
-use mathlib.Core.Bool.{Bool, true, false, Bool·beq, _&&_}
+use mathlib.Core.Bool.{Bool, true, false, Bool·beq, not, _&&_}
 use borrow.Author.Tests.{not-true, not-false}
 use Rattle.slot.specs.declared.status.Status.{Status}
-use Rattle.slot.specs.Judging.{placeOf, isReason, isFrame}
-use Rattle.slot.specs.Sound.{wouldOpen, keepsWell, exactlyWith}
+use Rattle.slot.specs.Judging.{placeOf, isReason, isSecondGoodFrame, isFrame}
+use Rattle.slot.specs.Sound.{wouldOpen, keepsWell, exactlyWith, onlyWith}
 use borrow.Author.Needs.{needs}
 use Rattle.slot.proofs.sound.is_sound.Statement.{statement}
 use Rattle.slot.proofs.sound.is_sound.Tie as tie
@@ -15,6 +15,12 @@ stands-with true {b = true} e = ap (exactlyWith true) (sym e)
 stands-with true {b = false} e = ap (exactlyWith true) (sym e)
 stands-with false {b = true} e = ap (exactlyWith false) (sym e)
 stands-with false {b = false} e = ap (exactlyWith false) (sym e)
+
+-- "only with" is not without
+not-without : (a v : Bool) {z : Bool} → a ≡ z → onlyWith z v ≡ not (a && not v)
+not-without true true e = ap (λ (b : Bool). onlyWith b true) (sym e)
+not-without true false e = ap (λ (b : Bool). onlyWith b false) (sym e)
+not-without false v e = ap (λ (b : Bool). onlyWith b v) (sym e)
 
 -- ---- what each test says, and the clauses that hold where it was passed
 
@@ -45,6 +51,16 @@ valid c = frame-asked (search needs) ∙ not-false _ (c .if3 .left)
 keeps : (c : tie.Else4) → let s = given (search needs) in keepsWell (placeOf s) (s .kept) ≡ true
 keeps c = sym (c .before .«keeps-well» .ensures) ∙ not-false _ (c .if4 .left)
 
+abbrev withValid : Status → Bool
+withValid s = onlyWith (isSecondGoodFrame (s .reason)) (s .valid)
+
+second-asked : (c : tie.After-is-second-good-frame)
+    → let s = given (search needs) in withValid s ≡ not (c .«is-second-good-frame» .result && not (s .valid))
+second-asked c = not-without (c .«is-second-good-frame» .result) (given (search needs) .valid) (c .«is-second-good-frame» .ensures)
+
+second : (c : tie.Else5) → withValid (given (search needs)) ≡ true
+second c = second-asked (search needs) ∙ ap not (c .if5 .left)
+
 -- ---- each return
 
 returns : tie.Need-returns
@@ -62,10 +78,27 @@ returns-4 c =
 
 returns-5 : tie.Need-returns-5
 returns-5 c =
+    rw (
+      opens (search needs),
+      content (search needs),
+      valid (search needs),
+      keeps (search needs),
+      second-asked (search needs) ∙ ap not (c .if5 .taken),
+    )
+
+returns-6 : tie.Need-returns-6
+returns-6 c =
     let s = given (search needs) in
     let arrived : tie.After-has-arrival = search needs in
     let both = ap (_&&_ (s .«own_sending»)) (arrived .«has-arrival» .ensures) in
-    rw (opens (search needs), content (search needs), valid (search needs), keeps (search needs), stands-with (s .conflict) both)
+    rw (
+      opens (search needs),
+      content (search needs),
+      valid (search needs),
+      keeps (search needs),
+      second (search needs),
+      stands-with (s .conflict) both,
+    )
 
 pub is-sound-spec : {M : Type 1} → statement M
 is-sound-spec =
@@ -75,4 +108,5 @@ is-sound-spec =
     (λ c κs. search needs) returns-2
     (λ c κs. search needs) returns-3
     (λ c κs. search needs) returns-4
-    (λ c κs. search needs) returns-5)
+    (λ c κs. search needs) returns-5
+    (λ c κs. search needs) returns-6)

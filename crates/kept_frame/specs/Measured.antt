@@ -1,0 +1,28 @@
+-- A claim over judging and measuring: "measurements still use the kept frame" (02, C-15).
+use Prim.Native.Nat.{ℕ}
+use mathlib.Core.Path.{_≡_}
+use mathlib.Core.Bool.{true}
+use mathlib.Core.List.{List}
+use mathlib.Core.Logic.{_↔_}
+use Rattle.base_types.specs.declared.microtick.Microtick.{Microtick}
+use Rattle.slot.specs.declared.status.Status.{Status}
+use Rattle.slot.specs.Judging.{isFrame}
+use Rattle.slot_events.specs.declared.Judged.{Judged}
+use Rattle.slot_events.specs.Effect.{Event, arrival}
+use Rattle.slot_events.specs.Events.{leftBy, EventSays}
+use Rattle.clock.specs.declared.state.Clock.{Clock}
+use Rattle.measuring.specs.declared.FrameMeasured.{FrameMeasured}
+use Rattle.measuring.specs.Measuring.{MeasureSays}
+
+-- A slot that keeps a frame is measured after any event as it was before: what the statement of measuring allows is the same.
+abbrev pub MeasuredAsBefore : Type 0
+MeasuredAsBefore =
+    (status : Status) (e : Event) (judged : Judged) → EventSays status e judged → isFrame (status .kept) ≡ true
+    → (clock : Clock) (observed actionPoint : Microtick) (r : FrameMeasured)
+    → MeasureSays clock (judged .status) observed actionPoint r ↔ MeasureSays clock status observed actionPoint r
+
+-- `measured_later`: what it answers is that of measuring the status after the arrival and, where a frame was kept before, that of measuring
+-- the status before it.
+pub record MeasuredLater (clock : Clock) (status : Status) (bytes : List ℕ) (observed actionPoint : Microtick) (r : FrameMeasured) : Type 0 where
+  pub later : MeasureSays clock (leftBy status (arrival bytes)) observed actionPoint r
+  pub asBefore : isFrame (status .kept) ≡ true → MeasureSays clock status observed actionPoint r
