@@ -21,7 +21,7 @@ use Rattle.numbers.proofs.Truth.{both-true, true-both, same-true}
 use Rattle.numbers.proofs.Walk.{cases, came}
 use Rattle.slot_claims.proofs.ReasonLaws.{no-reason, which-reason, frame-there, no-frame}
 use Rattle.slot.proofs.SoundLaws.{Clauses, clauses}
-use Rattle.slot_claims.proofs.SoundCalls.{fits, has-after, after-sound, fresh-sound}
+use Rattle.slot_claims.proofs.SoundCalls.{fits, has-after, second-given, after-sound, fresh-sound}
 use Rattle.slot_claims.proofs.Brings.{arrives-exactly, refused-exactly, misses-exactly, passes-exactly, boundary-exactly, sending-exactly}
 use Rattle.slot_claims.proofs.AfterAll.{afterAll, all-place, all-sound, end, flag-exactly, first-exactly}
 
@@ -63,11 +63,10 @@ module _ (p : Place) (before : List Event) (e : Event) where
   )
 
   second-exactly : (given ≡ reason.SecondGoodFrame) ↔ PassesAgain p before e
-  second-exactly = (λ t. later-exactly .0 (there isLater t), λ again. ap (λ (x : Bool). cond x reason.SecondGoodFrame (b .reason)) (later-exactly .1 again))
-    where
-      there : (later : Bool) → cond later reason.SecondGoodFrame (b .reason) ≡ reason.SecondGoodFrame → later ≡ true
-      there true t = refl
-      there false t = absurd (false≢true (sym (fits p e .test) ∙ ap isSecondGoodFrame t))
+  second-exactly = (
+    λ t. later-exactly .0 (second-given (end p before) b (fits p e .test) (ap isSecondGoodFrame t)),
+    λ again. ap (λ (x : Bool). cond x reason.SecondGoodFrame (b .reason)) (later-exactly .1 again),
+  )
 
   missed-exactly : (miss : Miss) → (given ≡ reason.Missed miss) ↔ ArrivesMissing p miss e
   missed-exactly miss = (λ t. misses-exactly p miss e .0 (there isLater t), λ m. back (misses-exactly p miss e .1 m))

@@ -120,18 +120,23 @@ module _ {A : Type 0} (is : A → Bool) (old new : A) where
   first-has : (has : A → Bool) → has old ≡ true → has new ≡ true → has (cond (is old) old new) ≡ true
   first-has has eo en = cases-in (λ b. has (cond b old new) ≡ true) (is old) (λ t. eo) (λ t. en)
 
--- (f) comes where "valid" stood before, or is kept where it stood
+-- (f) is given only where a frame passes and "valid" stood before it
+pub second-given : (s : Status) (b : Brought) → isSecondGoodFrame (b .reason) ≡ false
+    → isSecondGoodFrame (reasonIn s b) ≡ true → isFrame (b .kept) && s .valid ≡ true
+second-given s b test = by (isFrame (b .kept) && s .valid)
+  where
+    by : (later : Bool) → isSecondGoodFrame (cond later reason.SecondGoodFrame (b .reason)) ≡ true → later ≡ true
+    by true e = refl
+    by false e = absurd (false≢true (sym test ∙ e))
+
+-- (f) stands where it stood, or where it is given; "valid" stood before in both
 second-after : (s : Status) (b : Brought) → (isSecondGoodFrame (s .reason) ≡ true → s .valid ≡ true) → isSecondGoodFrame (b .reason) ≡ false
     → isSecondGoodFrame (joined s b .reason) ≡ true → joined s b .valid ≡ true
 second-after s b before test t = true-right (isFrame (b .kept)) (s .valid) (stood (isReason (s .reason)) t)
   where
-    new : (both : Bool) → (both ≡ true → s .valid ≡ true) → isSecondGoodFrame (cond both reason.SecondGoodFrame (b .reason)) ≡ true → s .valid ≡ true
-    new true f e = f refl
-    new false f e = absurd (false≢true (sym test ∙ e))
-
     stood : (old : Bool) → isSecondGoodFrame (cond old (s .reason) (reasonIn s b)) ≡ true → s .valid ≡ true
     stood true e = before e
-    stood false e = new (isFrame (b .kept) && s .valid) (λ both. both-true (isFrame (b .kept)) (s .valid) both .1) e
+    stood false e = both-true (isFrame (b .kept)) (s .valid) (second-given s b test e) .1
 
 joined-sound : (s : Status) (b : Brought) → sound s ≡ true → Fits (placeOf s) b → sound (joined s b) ≡ true
 joined-sound s b good f =
