@@ -7,19 +7,19 @@ use mathlib.Core.Logic.{_↔_}
 use Rattle.base_types.specs.declared.microtick.Microtick.{Microtick}
 use Rattle.slot.specs.declared.status.Status.{Status}
 use Rattle.slot.specs.Judging.{isFrame}
-use Rattle.slot_events.specs.declared.Judged.{Judged}
 use Rattle.slot_events.specs.Effect.{Event, arrival}
-use Rattle.slot_events.specs.Events.{leftBy, EventSays}
+use Rattle.slot_events.specs.Events.{leftBy}
+use Rattle.slot_claims.specs.Histories.{Calls}
 use Rattle.clock.specs.declared.state.Clock.{Clock}
 use Rattle.measuring.specs.declared.FrameMeasured.{FrameMeasured}
 use Rattle.measuring.specs.Measuring.{MeasureSays}
 
--- A slot that keeps a frame is measured after any event as it was before: what the statement of measuring allows is the same.
+-- A slot that keeps a frame is measured after any sequence of events as it was before: what the statement of measuring allows is the same.
 abbrev pub MeasuredAsBefore : Type 0
 MeasuredAsBefore =
-    (status : Status) (e : Event) (judged : Judged) → EventSays status e judged → isFrame (status .kept) ≡ true
+    (status : Status) (events : List Event) (later : Status) → Calls status events later → isFrame (status .kept) ≡ true
     → (clock : Clock) (observed actionPoint : Microtick) (r : FrameMeasured)
-    → MeasureSays clock (judged .status) observed actionPoint r ↔ MeasureSays clock status observed actionPoint r
+    → MeasureSays clock later observed actionPoint r ↔ MeasureSays clock status observed actionPoint r
 
 -- `measured_later`: what it answers is that of measuring the status after the arrival and, where a frame was kept before, that of measuring
 -- the status before it.
