@@ -2,7 +2,7 @@
 use mathlib.Core.Path.{_≡_, refl, sym, ap, _∙_, subst}
 use mathlib.Core.Bool.{Bool, true, cond}
 use mathlib.Core.List.{List, [], _∷_}
-use mathlib.Core.Logic.{_↔_, Iff·trans}
+use mathlib.Core.Logic.{Iff·trans}
 use Rattle.numbers.proofs.Walk.{cases}
 use Rattle.refusal.specs.Refusal.{first}
 use Rattle.base_types.specs.declared.microtick.Microtick.{Microtick}
@@ -18,7 +18,7 @@ use Rattle.measuring.specs.declared.FrameMeasured.{FrameMeasured}
 use Rattle.measuring.specs.Measuring.{measureRefusals, frameOf, MeasureSays}
 use Rattle.slot_claims.specs.Histories.{Calls}
 use Rattle.slot_claims.proofs.SoundCalls.{after-sound}
-use Rattle.kept_frame.specs.Measured.{MeasuredAsBefore}
+use Rattle.kept_frame.specs.Measured.{MeasuredAs, MeasuredAsBefore}
 
 -- the statement by all that it takes of a status
 same-says : (s t : Status) (clock : Clock) (observed actionPoint : Microtick) (r : FrameMeasured)
@@ -30,8 +30,7 @@ same-says s t clock observed actionPoint r number frame channel says =
 -- one status is measured as another, and keeps the same
 pub record Alike (s t : Status) : Type 0 where
   pub kept : t .kept ≡ s .kept
-  pub measured : (clock : Clock) (observed actionPoint : Microtick) (r : FrameMeasured)
-      → MeasureSays clock t observed actionPoint r ↔ MeasureSays clock s observed actionPoint r
+  pub measured : MeasuredAs s t
 
 alike-itself : (s : Status) → Alike s s
 alike-itself s = record { kept = refl; measured = λ clock observed actionPoint r. ((λ x. x), (λ x. x)) }

@@ -14,12 +14,16 @@ use Rattle.clock.specs.declared.state.Clock.{Clock}
 use Rattle.measuring.specs.declared.FrameMeasured.{FrameMeasured}
 use Rattle.measuring.specs.Measuring.{MeasureSays}
 
--- A slot that keeps a frame is measured after any sequence of events as it was before: what the statement of measuring allows is the same.
+-- One status is measured as another, with any clock state and times: what the statement of measuring allows is the same.
+abbrev pub MeasuredAs : Status → Status → Type 0
+MeasuredAs other status =
+    (clock : Clock) (observed actionPoint : Microtick) (r : FrameMeasured)
+    → MeasureSays clock status observed actionPoint r ↔ MeasureSays clock other observed actionPoint r
+
+-- A slot that keeps a frame is measured after any sequence of events as it was before.
 abbrev pub MeasuredAsBefore : Type 0
 MeasuredAsBefore =
-    (status : Status) (events : List Event) (later : Status) → Calls status events later → isFrame (status .kept) ≡ true
-    → (clock : Clock) (observed actionPoint : Microtick) (r : FrameMeasured)
-    → MeasureSays clock later observed actionPoint r ↔ MeasureSays clock status observed actionPoint r
+    (status : Status) (events : List Event) (later : Status) → Calls status events later → isFrame (status .kept) ≡ true → MeasuredAs status later
 
 -- `measured_later`: what it answers is that of measuring the status after the arrival and, where a frame was kept before, that of measuring
 -- the status before it.
