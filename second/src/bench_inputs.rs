@@ -4,7 +4,7 @@ use crate::bench::LONGEST_INPUT;
 use crate::bits;
 use crate::channel::Channel::{A, B};
 use crate::draft::Draft;
-use crate::frame::LARGEST_FRAME;
+use crate::frame::{LARGEST_FRAME, NULL_FRAME_BIT};
 use crate::listed_frames::{LONG, SHORT};
 
 pub struct BenchInput {
@@ -14,8 +14,6 @@ pub struct BenchInput {
     /// The line with its line feed.
     pub text: &'static str,
 }
-
-const NULL_FRAME_BIT: u8 = 0b00100;
 
 /// Far more than a script can hold, the channel's byte among them.
 const MANY_BYTES: usize = 5000;

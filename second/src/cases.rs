@@ -12,6 +12,7 @@ mod listed_frames;
 mod listed_slots;
 mod listed_streams;
 mod misses;
+mod null_frames;
 mod openings;
 mod reader;
 mod reading;
@@ -32,6 +33,7 @@ pub use bench::SHORT_INPUTS;
 pub use borders::{BORDERS, LOOKS};
 pub use listed::CHECK_VALUES;
 pub use listed_frames::{HEADER_CHECKSUMS, HEADER_REMAINDERS, REMAINDER};
+pub use null_frames::{BYTES, CANCELLING, NULL_FLAGS, SIZES, WRONG_SIZES};
 
 /// Fixed, so that the script is the same at every run.
 const SEED: u64 = 0x01_0019_0262;
@@ -67,6 +69,7 @@ pub fn all() -> Plan {
     undisturbed::add(&mut plan, &mut random);
     add_slot_mixture(&mut plan, &mut random);
     second_frames::add(&mut plan, &mut random);
+    null_frames::add(&mut plan, &mut random);
     // Behind everything about slots: the first of these finds no clock loaded.
     clock::add(&mut plan, &mut random);
     add_clock_mixture(&mut plan, &mut random);

@@ -4,8 +4,9 @@ use crate::bits;
 use crate::channel::Channel;
 use crate::frame::{self, Fields, Indicators, HIGHEST_CYCLE, HIGHEST_ID, MOST_WORDS, TRAILER_BYTES};
 use crate::random::Random;
+use crate::script::{OnChannel, Write};
 
-#[derive(Clone, Debug)]
+#[derive(Clone, Debug, PartialEq, Eq)]
 pub struct Draft {
     pub channel: Channel,
     pub indicators: Indicators,
@@ -49,9 +50,17 @@ impl Draft {
         }
     }
 
-    /// The same frame with the reserved bit 0, so that it can be written.
-    pub fn writable(self) -> Draft {
+    /// The same frame with the reserved bit 0.
+    pub fn unreserved(self) -> Draft {
         Draft { indicators: Indicators { reserved: false, ..self.indicators }, ..self }
+    }
+
+    /// The same frame as it can be written: with the reserved bit 0, and a null frame with zeros (02 C-16).
+    pub fn writable(self) -> Draft {
+        if self.indicators.null_frame {
+            return self.unreserved();
+        }
+        Draft { payload: vec![0; self.payload.len()], ..self.unreserved() }
     }
 
     /// The same frame with another number of words, and a payload of that size.
@@ -79,6 +88,15 @@ impl Draft {
             *byte ^= change;
         }
         frame
+    }
+
+    pub fn on_channel(&self) -> OnChannel {
+        OnChannel { channel: self.channel.number(), bytes: self.bytes() }
+    }
+
+    /// A write of all that a read of this frame gives, which is a good one.
+    pub fn again(&self) -> Write {
+        Write::again(&self.on_channel()).expect("a good frame is accepted")
     }
 }
 

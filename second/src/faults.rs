@@ -3,6 +3,7 @@
 use crate::channel::Channel;
 use crate::draft::{fair_cycle, fair_id, fair_indicators, fair_words, foreign_channel, Draft};
 use crate::frame::{Indicators, HIGHEST_CYCLE, HIGHEST_ID, LARGEST_PAYLOAD, MOST_WORDS, SMALLEST_FRAME};
+use crate::payloads;
 use crate::random::Random;
 use crate::refusal::Refusal;
 use crate::scene::Scene;
@@ -125,31 +126,31 @@ fn channel_number(random: &mut Random, channel: Channel, faults: &[Refusal]) -> 
 /// A write in which each of the named refusals has a cause.
 pub fn faulty_write(random: &mut Random, faults: &[Refusal]) -> Command {
     let channel = random.pick(&Channel::BOTH);
-    let words = fair_words(random);
-    let fair = fair_write(random, channel, words);
-    let payload = faulty_payload(random, fair.payload, faults);
+    let size = faulty_size(random, faults);
+    let fair = fair_write(random, channel, size);
+    let not_zeros = faults.contains(&Refusal::NullFramePayload);
     let write = Write {
         channel: channel_number(random, channel, faults),
         flags: faulty_flags(fair.flags, faults),
         id: if faults.contains(&Refusal::IdGiven) { wrong_id(random) } else { fair.id },
         cycle: if faults.contains(&Refusal::Cycle) { wrong_cycle(random) } else { fair.cycle },
-        room: room_for(random, SMALLEST_FRAME + payload.len(), faults.contains(&Refusal::Output)),
-        payload,
+        payload: if not_zeros { payloads::not_zeros(random, size) } else { fair.payload },
+        room: room_for(random, fair.room, faults.contains(&Refusal::Output)),
     };
     Command::Write(write)
 }
 
-/// A write that is taken, with its room exact; the unnamed flag bits are at random.
-pub fn fair_write(random: &mut Random, channel: Channel, words: u8) -> Write {
-    let payload = random.bytes(2 * usize::from(words));
+/// A write that is taken, unless no frame has a payload of this size, with its room exact; the unnamed flag bits are at
+/// random.
+pub fn fair_write(random: &mut Random, channel: Channel, size: usize) -> Write {
     let indicators = Indicators { reserved: false, ..fair_indicators(random) };
     Write {
         channel: channel.number(),
         flags: indicators.flags() | (random.below(8) << 5) as u8,
         id: fair_id(random),
         cycle: fair_cycle(random),
-        room: SMALLEST_FRAME + payload.len(),
-        payload,
+        payload: payloads::writable(random, indicators, size),
+        room: SMALLEST_FRAME + size,
     }
 }
 
@@ -157,20 +158,22 @@ fn faulty_flags(flags: u8, faults: &[Refusal]) -> u8 {
     let unnamed = flags & 0b1110_0000;
     let indicators = with_startup_fault(Indicators::from_flags(flags), faults);
     let reserved = faults.contains(&Refusal::ReservedToWrite);
-    unnamed | Indicators { reserved, ..indicators }.flags()
+    let null_frame = indicators.null_frame && !faults.contains(&Refusal::NullFramePayload);
+    unnamed | Indicators { reserved, null_frame, ..indicators }.flags()
 }
 
-fn faulty_payload(random: &mut Random, payload: Vec<u8>, faults: &[Refusal]) -> Vec<u8> {
+/// That of the payload. One without a byte has none other than 0 either.
+fn faulty_size(random: &mut Random, faults: &[Refusal]) -> usize {
     if !faults.contains(&Refusal::PayloadToWrite) {
-        return payload;
+        let fewest = u8::from(faults.contains(&Refusal::NullFramePayload));
+        return 2 * usize::from(fair_words(random).max(fewest));
     }
-    let size = match random.below(12) {
+    match random.below(12) {
         0 => LARGEST_PAYLOAD + 1,
         1 => LARGEST_PAYLOAD + 2,
         2 => random.between(LARGEST_PAYLOAD + 1, LIMIT),
         _ => 2 * random.below(8) + 1,
-    };
-    random.bytes(size)
+    }
 }
 
 /// IDs out of their range: those beside it, and the highest of all.

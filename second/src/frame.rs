@@ -1,4 +1,4 @@
-//! Frame checksum, reading and writing by 01 "Frame layout" and "Refusal numbers".
+//! Frame checksum, reading and writing by 01 "Frame layout" and "Refusal numbers", writing as 02 C-16 amends it.
 
 use crate::bits;
 use crate::channel::Channel;
@@ -21,6 +21,9 @@ const CHECKSUM_BITS: usize = 11;
 pub const CYCLE_BITS: usize = 6;
 
 const HEADER_START_VALUE: u32 = 0x01A;
+
+/// The null frame bit among a script's flags.
+pub const NULL_FRAME_BIT: u8 = 0b00100;
 
 /// The five leading bits of a header, each as it is sent (null frame: 0 = null).
 #[derive(Clone, Copy, Debug, PartialEq, Eq)]
@@ -190,7 +193,7 @@ pub fn write(channel: u8, given: &ToWrite, payload: &[u8], output: &mut [u8]) ->
     Ok(frame.len())
 }
 
-/// Every cause for a refusal of a write, in the order 1, 9, 10, 11, 7, 12, 13.
+/// Every cause for a refusal of a write, in the order 1, 9, 10, 11, 7, 12, 26, 13.
 pub fn write_causes(channel: u8, given: &ToWrite, payload: &[u8], room: usize) -> Vec<Refusal> {
     holding([
         (Refusal::Channel, Channel::from_number(channel).is_err()),
@@ -199,6 +202,8 @@ pub fn write_causes(channel: u8, given: &ToWrite, payload: &[u8], room: usize) -
         (Refusal::Cycle, given.cycle > HIGHEST_CYCLE),
         (Refusal::StartupWithoutSync, given.indicators.startup_without_sync()),
         (Refusal::ReservedToWrite, given.indicators.reserved),
+        // A null frame has its null frame bit 0.
+        (Refusal::NullFramePayload, !given.indicators.null_frame && payload.iter().any(|byte| *byte != 0)),
         (Refusal::Output, room < SMALLEST_FRAME + payload.len()),
     ])
 }
@@ -226,6 +231,7 @@ pub fn frame_bytes(channel: Channel, fields: &Fields, payload: &[u8]) -> Vec<u8>
 #[cfg(test)]
 mod tests {
     use super::*;
+    use crate::listed_frames::{LONG, NOT_ZEROS, STARTUP, ZEROS, ZEROS_WITH_PREAMBLE};
 
     /// The four covered fields stand side by side in the header: its 20 bits from the fourth on.
     #[test]
@@ -245,5 +251,123 @@ mod tests {
         }
         assert!(Indicators::from_flags(1).reserved);
         assert!(Indicators::from_flags(16).startup);
+    }
+
+    /// Flags, ID and cycle.
+    type Given = (u8, u16, u8);
+
+    /// The number that a write into so much room gives, and what is in the room afterwards.
+    fn written(channel: u8, (flags, id, cycle): Given, payload: &[u8], room: usize) -> (u8, Vec<u8>) {
+        let given = ToWrite { indicators: Indicators::from_flags(flags), id, cycle };
+        let mut output = vec![0x3C; room];
+        let answer = write(channel, &given, payload, &mut output);
+        assert!(answer.is_err() || answer == Ok(8 + payload.len()));
+        (answer.map_or_else(Refusal::number, |_| 0), output)
+    }
+
+    fn number(flags: u8, payload: &[u8]) -> u8 {
+        written(0, (flags, 3, 5), payload, 8 + payload.len()).0
+    }
+
+    /// 02 C-16: one byte other than 0 is enough, at each place and with each bit.
+    #[test]
+    fn a_byte_other_than_0_is_refused_in_null_frames_alone() {
+        for size in [2, 4, 254] {
+            for place in 0..size {
+                for byte in [1, 2, 4, 8, 16, 32, 64, 128, 255] {
+                    let mut payload = vec![0; size];
+                    payload[place] = byte;
+                    assert_eq!(number(0b00000, &payload), 26, "{byte} at {place} of {size}");
+                }
+                let mut payload = vec![0; size];
+                payload[place] = 128;
+                assert_eq!(number(0b00100, &payload), 0, "{place} of {size}");
+            }
+        }
+        for payload in [&[1, 1][..], &[128, 128], &[1, 255], &[85, 0, 0, 85], &[255; 254]] {
+            assert_eq!((number(0b00000, payload), number(0b00100, payload)), (26, 0));
+        }
+    }
+
+    /// Neither preamble nor sync nor startup bit are looked at.
+    #[test]
+    fn null_frames_by_their_other_bits() {
+        for flags in [0b00000, 0b00010, 0b01000, 0b01010, 0b11000, 0b11010] {
+            for size in [0, 2, 4, 254] {
+                assert_eq!(number(flags, &vec![0; size]), 0, "{flags} and {size}");
+            }
+            assert_eq!((number(flags, &[0, 1]), number(flags, &[128, 0])), (26, 26), "{flags}");
+            assert_eq!((number(flags | 0b00001, &[0, 1]), number(flags | 0b00001, &[0, 0])), (12, 12), "{flags}");
+            assert_eq!((number(flags | 0b00100, &[0, 1]), number(flags | 0b00100, &[0, 0])), (0, 0), "{flags}");
+        }
+    }
+
+    /// All causes at once, and then one after the other put right: 1, 9, 10, 11, 7, 12, 26, 13.
+    #[test]
+    fn writes_are_refused_in_their_order() {
+        let steps: [(u8, Given, &[u8], usize); 9] = [
+            (2, (0b10001, 0, 64), &[0, 0, 9], 7),
+            (1, (0b10001, 0, 64), &[0, 0, 9], 7),
+            (1, (0b10001, 2047, 64), &[0, 0, 9], 7),
+            (1, (0b10001, 2047, 64), &[0, 9], 7),
+            (1, (0b10001, 2047, 63), &[0, 9], 7),
+            (1, (0b11001, 2047, 63), &[0, 9], 7),
+            (1, (0b11000, 2047, 63), &[0, 9], 7),
+            (1, (0b11000, 2047, 63), &[0, 0], 7),
+            (1, (0b11000, 2047, 63), &[0, 0], 10),
+        ];
+        let numbers = steps.map(|(channel, given, payload, room)| written(channel, given, payload, room).0);
+        assert_eq!(numbers, [1, 9, 10, 11, 7, 12, 26, 13, 0]);
+    }
+
+    /// 26 beside one other cause: all but 13 are told first.
+    #[test]
+    fn causes_beside_a_null_frame_that_is_not_empty() {
+        const FAIR: Given = (0b00000, 1, 0);
+        let cases: [(u8, Given, &[u8], usize, u8); 12] = [
+            (0, FAIR, &[7, 0], 10, 26),
+            (255, FAIR, &[7, 0], 10, 1),
+            (0, (0b00000, 2048, 0), &[7, 0], 10, 9),
+            (0, FAIR, &[7], 9, 10),
+            (0, FAIR, &[7; 255], 263, 10),
+            (0, FAIR, &[7; 256], 264, 10),
+            (0, (0b00000, 1, 64), &[7, 0], 10, 11),
+            (0, (0b10000, 1, 0), &[7, 0], 10, 7),
+            (0, (0b00001, 1, 0), &[7, 0], 10, 12),
+            (0, FAIR, &[7, 0], 9, 26),
+            (0, FAIR, &[7, 0], 0, 26),
+            (0, FAIR, &[0, 0], 9, 13),
+        ];
+        for (channel, given, payload, room, number) in cases {
+            // A refusal touches nothing.
+            assert_eq!(written(channel, given, payload, room), (number, vec![0x3C; room]));
+        }
+    }
+
+    /// Frames that are known whole are read, and what was read is written: the same bytes, or nothing.
+    #[test]
+    fn known_frames_are_read_and_then_written() {
+        for channel in Channel::BOTH {
+            for frame in [&STARTUP, &LONG, &ZEROS, &ZEROS_WITH_PREAMBLE] {
+                assert_eq!(rewritten(channel, &frame.bytes(channel)), (0, frame.bytes(channel)));
+            }
+            assert_eq!(rewritten(channel, &NOT_ZEROS.bytes(channel)), (26, vec![0x3C; 12]));
+        }
+        // The same with the reserved bit.
+        let reserved: [&[u8]; 2] = [
+            &[0x98, 0x03, 0x05, 0x57, 0x05, 0x01, 0x02, 0x03, 0x04, 0x23, 0xF3, 0x9B],
+            &[0x98, 0x03, 0x05, 0x57, 0x05, 0x01, 0x02, 0x03, 0x04, 0x45, 0xA9, 0x9E],
+        ];
+        for (channel, bytes) in Channel::BOTH.into_iter().zip(reserved) {
+            assert_eq!(rewritten(channel, bytes), (12, vec![0x3C; 12]));
+        }
+    }
+
+    fn rewritten(channel: Channel, bytes: &[u8]) -> (u8, Vec<u8>) {
+        let answer = read(channel.number(), bytes);
+        let payload = payload(&answer, bytes);
+        assert_eq!(payload, &bytes[5..bytes.len() - 3]);
+        let Fields { indicators, id, cycle, .. } = answer.unwrap();
+        written(channel.number(), (indicators.flags(), id, cycle), payload, bytes.len())
     }
 }

@@ -96,10 +96,14 @@ pub enum Tested {
     Good,
 }
 
-/// All read refusals but that of a channel, which a slot can't meet.
+/// All read refusals but that of a channel, which a slot can't meet; no bytes are a sort of their own.
 fn any_refused(random: &mut Random, scene: &Scene) -> Vec<u8> {
     let refusal = random.pick(&READ_ORDER[1..]);
-    scene.refused(random, refusal)
+    let bytes = scene.refused(random, refusal);
+    if bytes.is_empty() {
+        return random.bytes(1);
+    }
+    bytes
 }
 
 /// 01 "Judging a slot": the marks with "conflict" as the others ask for it.

@@ -3,7 +3,7 @@
 use crate::channel::Channel;
 use crate::draft::Draft;
 use crate::frame::{Indicators, HIGHEST_CYCLE, HIGHEST_ID, LARGEST_PAYLOAD};
-use crate::script::OnChannel;
+use crate::script::{OnChannel, Write};
 
 pub struct ListedFrame {
     pub header: [u8; 5],
@@ -57,6 +57,30 @@ pub const LONG: ListedFrame = ListedFrame {
 
 pub const ALL: [ListedFrame; 3] = [SHORT, STARTUP, LONG];
 
+/// STARTUP as a null frame, which is read and by 02 C-16 not written.
+pub const NOT_ZEROS: ListedFrame = ListedFrame {
+    header: [0x18, 0x03, 0x05, 0x57, 0x05],
+    trailers: [[0x6F, 0x72, 0xBA], [0x09, 0x28, 0xBF]],
+    flags: 0b11000,
+    fields: "0 0 0 1 1 3 2 1372 5",
+    ..STARTUP
+};
+
+/// The same null frame as it is written.
+pub const ZEROS: ListedFrame =
+    ListedFrame { payload: &[0; 4], trailers: [[0x0D, 0xEF, 0x93], [0x6B, 0xB5, 0x96]], ..NOT_ZEROS };
+
+/// Written as well, with the preamble bit.
+pub const ZEROS_WITH_PREAMBLE: ListedFrame = ListedFrame {
+    header: [0x58, 0x03, 0x05, 0x57, 0x05],
+    trailers: [[0x85, 0x19, 0xE6], [0xE3, 0x43, 0xE3]],
+    flags: 0b11010,
+    fields: "0 1 0 1 1 3 2 1372 5",
+    ..ZEROS
+};
+
+pub const NULL_FRAMES: [ListedFrame; 3] = [NOT_ZEROS, ZEROS, ZEROS_WITH_PREAMBLE];
+
 impl ListedFrame {
     pub fn trailer(&self, channel: Channel) -> [u8; 3] {
         self.trailers[usize::from(channel.number())]
@@ -64,6 +88,13 @@ impl ListedFrame {
 
     pub fn bytes(&self, channel: Channel) -> Vec<u8> {
         [&self.header, self.payload, &self.trailer(channel)].concat()
+    }
+
+    /// A write of the frame, in a room for just that.
+    pub fn write(&self, channel: Channel) -> Write {
+        let ListedFrame { flags, id, cycle, .. } = *self;
+        let (channel, room) = (channel.number(), self.bytes(channel).len());
+        Write { channel, flags, id, cycle, payload: self.payload.to_vec(), room }
     }
 
     /// The first bytes, or all of them and zeros behind: as many as asked for.

@@ -29,6 +29,7 @@ mod listed_streams;
 mod listening;
 mod marks;
 mod mixture;
+mod payloads;
 mod plan;
 mod random;
 mod reached;

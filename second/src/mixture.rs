@@ -77,7 +77,7 @@ pub fn frame_command(random: &mut Random) -> Command {
         0 | 1 => any_checksum(random),
         2..=10 => Command::Read(any_frame(random)),
         11..=13 => read_with_some_faults(random),
-        14..=19 => write_with_some_faults(random),
+        14..=19 => any_write(random),
         20..=23 => bench_of(&any_frame(random)),
         24 => bench_with_some_faults(random),
         25 => any_bench_input(random),
@@ -171,7 +171,7 @@ fn random_header(random: &mut Random) -> OnChannel {
     let id = if random.one_in(4) { 0 } else { fair.id };
     let words = if random.one_in(3) { random.below(usize::from(MOST_WORDS) + 1) as u8 } else { fair.words };
     let draft = Draft { indicators, id, words, ..fair };
-    OnChannel { channel: draft.channel.number(), bytes: draft.bytes() }
+    draft.on_channel()
 }
 
 fn read_with_some_faults(random: &mut Random) -> Command {
@@ -188,6 +188,16 @@ fn bench_with_some_faults(random: &mut Random) -> Command {
 fn any_bench_input(random: &mut Random) -> Command {
     let size = if random.one_in(4) { 0 } else { any_size(random) };
     Command::Bench(random.bytes(size))
+}
+
+/// Null frames with zeros and with a byte other than 0 come often (02 C-16), and so do frames as they were read.
+fn any_write(random: &mut Random) -> Command {
+    match random.below(6) {
+        0 => faulty_write(random, &[]),
+        1 => faulty_write(random, &[Refusal::NullFramePayload]),
+        2 => Command::Write(fair_draft(random).again()),
+        _ => write_with_some_faults(random),
+    }
 }
 
 fn write_with_some_faults(random: &mut Random) -> Command {
@@ -214,7 +224,10 @@ fn any_encode(random: &mut Random) -> Command {
 #[cfg(test)]
 mod tests {
     use super::*;
+    use crate::frame::NULL_FRAME_BIT;
+    use crate::payloads::places;
     use crate::replay::{Outcome, Replay};
+    use crate::script::Write;
     use crate::wire::{self, START_LENGTHS};
 
     fn some_outcomes(count: usize) -> Vec<Outcome> {
@@ -261,6 +274,43 @@ mod tests {
         assert!(4 * count(0) > encodings.len());
         for start in START_LENGTHS {
             assert!(encodings.contains(&(start, 0, 0)) && encodings.contains(&(start, 25, -1)), "{start}");
+        }
+    }
+
+    /// Every answer to a write turns up. Null frames are often written with zeros, and often refused for one byte, which is
+    /// at either end or between them; other frames are written as often.
+    #[test]
+    fn writes_of_every_sort() {
+        let outcomes = some_outcomes(20_000);
+        let writes: Vec<(&Write, u8)> = outcomes.iter().filter_map(write_and_number).collect();
+        for refusal in WRITE_ORDER {
+            assert!(writes.iter().filter(|(_, number)| *number == refusal.number()).count() > 40, "{refusal:?}");
+        }
+        // Of so many writes more than one is such a one.
+        let one_in = |many: usize, number, is: fn(&Write) -> bool| {
+            let found = writes.iter().filter(|(write, other)| *other == number && is(write)).count();
+            assert!(many * found > writes.len(), "{found} of {}", writes.len());
+        };
+        one_in(12, 0, |write| is_null(write) && write.payload.len() > 1 && places(&write.payload).is_empty());
+        one_in(24, 26, |write| places(&write.payload) == [0]);
+        one_in(24, 26, |write| places(&write.payload) == [write.payload.len() - 1]);
+        one_in(40, 26, is_other_than_0_between);
+        one_in(8, 0, |write| !is_null(write));
+        one_in(40, 0, |write| !is_null(write) && places(&write.payload).len() == 1);
+    }
+
+    fn is_null(write: &Write) -> bool {
+        write.flags & NULL_FRAME_BIT == 0
+    }
+
+    fn is_other_than_0_between(write: &Write) -> bool {
+        matches!(places(&write.payload)[..], [place] if place > 0 && place + 1 < write.payload.len())
+    }
+
+    fn write_and_number(outcome: &Outcome) -> Option<(&Write, u8)> {
+        match outcome {
+            Outcome::Answered(Command::Write(write), answer) => Some((write, answer.number())),
+            _ => None,
         }
     }
 

@@ -13,6 +13,7 @@ mod ends;
 mod frames;
 mod given;
 mod measuring;
+mod null_frames;
 mod reader;
 mod reader_soundness;
 mod second_frames;
@@ -166,6 +167,7 @@ fn required() -> Vec<String> {
     all.extend(given::required());
     all.extend(stays::required());
     all.extend(frames::required());
+    all.extend(null_frames::required());
     all.extend(damage::required());
     all.extend(bench::required());
     all.extend(streams::required());
@@ -186,10 +188,13 @@ fn required() -> Vec<String> {
 #[cfg(test)]
 mod tests {
     use super::*;
+    use crate::channel::Channel;
+    use crate::listed_frames::NOT_ZEROS;
     use crate::plan::Expected;
     use crate::random::Random;
     use crate::replay::Replay;
     use crate::scene::Scene;
+    use crate::script::Write;
 
     fn reaches(commands: &[&Command], text: &str) -> bool {
         let mut plan = Plan::default();
@@ -216,5 +221,29 @@ mod tests {
         }
         assert!(!reaches(&[&open, &event, &open, &show], "X with causes for []"));
         assert!(reaches(&[&frame], "F with causes for []"));
+    }
+
+    #[test]
+    fn a_payload_counts_where_nothing_else_is_wrong() {
+        let write =
+            |payload: &[u8], room| Command::Write(Write { payload: payload.to_vec(), id: 1, room, ..Write::default() });
+        let one = "null frame bit 0, 2 bytes, 9 at 1 on 0: 26";
+        assert!(reaches(&[&write(&[0, 9], 10)], one));
+        assert!(!reaches(&[&write(&[0, 9], 9)], one));
+        assert!(!reaches(&[&write(&[8, 9], 10)], one));
+        assert!(reaches(&[&write(&[0, 9], 9)], "NullFramePayload beside Output given spare room -1: 26"));
+        assert!(!reaches(&[&write(&[0, 0], 9)], "NullFramePayload beside Output given spare room -1: 13"));
+        assert!(reaches(&[&write(&[0, 0], 10)], "2 zeros with flags 0 on 0: 0"));
+    }
+
+    #[test]
+    fn what_was_read_counts_when_it_is_written() {
+        let frame = NOT_ZEROS.bytes(Channel::B);
+        let (read, write) = (Command::read(1, &frame), Command::Write(NOT_ZEROS.write(Channel::B)));
+        let again = "4 bytes, zeros: false, null: true, reserved: false, on 1, read and then written: 26";
+        assert!(reaches(&[&read, &write], again));
+        assert!(!reaches(&[&write, &read], again));
+        assert!(!reaches(&[&Command::read(0, &frame), &write], again));
+        assert!(reaches(&[&read], "R of a null frame of 4 bytes, zeros: false, on 1: 0"));
     }
 }

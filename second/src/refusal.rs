@@ -27,6 +27,7 @@ pub enum Refusal {
     NotSound = 23,
     StartLength = 24,
     PackedOutput = 25,
+    NullFramePayload = 26,
     // 30 to 35 are told by a reader of the wire while it goes on.
     LongStart = 30,
     LongFrameStart = 31,
@@ -49,14 +50,15 @@ pub const READ_ORDER: [Refusal; 8] = [
     Refusal::FrameChecksum,
 ];
 
-/// 01 "Refusal numbers", order of a write.
-pub const WRITE_ORDER: [Refusal; 7] = [
+/// 01 "Refusal numbers" and 02 C-16, order of a write.
+pub const WRITE_ORDER: [Refusal; 8] = [
     Refusal::Channel,
     Refusal::IdGiven,
     Refusal::PayloadToWrite,
     Refusal::Cycle,
     Refusal::StartupWithoutSync,
     Refusal::ReservedToWrite,
+    Refusal::NullFramePayload,
     Refusal::Output,
 ];
 
@@ -126,7 +128,7 @@ mod tests {
     #[test]
     fn orders_stand_as_in_the_paper() {
         assert_eq!(READ_ORDER.map(Refusal::number), [1, 2, 3, 4, 5, 6, 7, 8]);
-        assert_eq!(WRITE_ORDER.map(Refusal::number), [1, 9, 10, 11, 7, 12, 13]);
+        assert_eq!(WRITE_ORDER.map(Refusal::number), [1, 9, 10, 11, 7, 12, 26, 13]);
         assert_eq!(ENCODE_ORDER.map(Refusal::number), [1, 2, 3, 4, 5, 6, 7, 8, 24, 25]);
         assert_eq!(OPEN_SLOT_ORDER.map(Refusal::number), [17, 1, 9, 11]);
         assert_eq!(OPEN_CYCLE_ORDER.map(Refusal::number), [23, 11, 19]);

@@ -77,6 +77,12 @@ mod tests {
             W\x00\xE4\x01\x00\x00\x00\x00\x0A\x00\
             W\x00\x04\x01\x00\x00\x00\x00\x02\x00\
             W\x02\x04\x01\x00\x00\x00\x00\x00\x00\
+            R\x00\x0A\x00\x00\x01\x03\x46\x80\x00\x01\x7E\xDA\x59\
+            W\x00\x00\x01\x00\x00\x02\x00\x00\x01\x0A\x00\
+            W\x00\x00\x01\x00\x00\x02\x00\x00\x01\x09\x00\
+            W\x00\x01\x01\x00\x00\x02\x00\x00\x01\x0A\x00\
+            W\x01\x02\x01\x00\x00\x02\x00\x00\x00\x0B\x00\
+            W\x01\x04\x01\x00\x00\x02\x00\x80\x00\x0A\x00\
             P\x09\x00\x01\x20\x01\x01\xA7\xC0\x3B\xD0\x8F\
             P\x02\x00\x00\x20\
             P\x00\x00\
@@ -95,6 +101,12 @@ mod tests {
             "write 0 8 200101a7c0d05eeaa5a5",
             "write 13 0 a5a5",
             "write 1 0 -",
+            "read 0 0 0 0 0 0 1 1 1306 0 0001",
+            "write 26 0 a5a5a5a5a5a5a5a5a5a5",
+            "write 26 0 a5a5a5a5a5a5a5a5a5",
+            "write 12 0 a5a5a5a5a5a5a5a5a5a5",
+            "write 0 10 40010346800000abcaafa5",
+            "write 0 10 2001034680800056fe1f",
             "accepted 1 0 0",
             "refused 2",
             "refused 1",

@@ -50,8 +50,8 @@ writingBy t =
     let other = writing.NotAChannel in
     getD
     (writing.Written (t .length) ∷ writing.NotAChannel ∷ other ∷ other ∷ other ∷ other ∷ other ∷ writing.StartupWithoutSync ∷ other
-    ∷ writing.NotAnId ∷ writing.BadPayload ∷ writing.CycleTooHigh ∷ writing.ReservedSet ∷ [])
-    (t .number) writing.OutputTooShort
+    ∷ writing.NotAnId ∷ writing.BadPayload ∷ writing.CycleTooHigh ∷ writing.ReservedSet ∷ writing.OutputTooShort ∷ [])
+    (t .number) writing.NullFrameNotEmpty
 
 writing-by : (r : Writing) → writingBy (write.told r) ≡ r
 unfolding writingBy
@@ -62,6 +62,7 @@ writing-by writing.BadPayload = refl
 writing-by writing.CycleTooHigh = refl
 writing-by writing.StartupWithoutSync = refl
 writing-by writing.ReservedSet = refl
+writing-by writing.NullFrameNotEmpty = refl
 writing-by writing.OutputTooShort = refl
 
 pub write-one : WriteOne

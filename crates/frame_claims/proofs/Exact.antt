@@ -3,13 +3,15 @@ use Prim.Native.Nat.{ℕ, _+_, _/_, _%_, _≤_}
 use mathlib.Core.Path.{_≡_, refl, sym, ap, ap₂, _∙_, subst}
 use mathlib.Core.Bool.{Bool, true, false}
 use mathlib.Core.List.{List, [], _∷_, _++_, append-assoc}
+use mathlib.Core.Logic.{inl, inr}
 use native.Mathlib.Omega.{arith}
-use borrow.Author.Tests.{ltb-false, eqb-false, le-ltb}
+use borrow.Author.Tests.{ltb-true, ltb-false, eqb-false, le-ltb}
 use lib.Dec.{ltb}
 use lib.ListN.{length, take, drop}
 use Rattle.refusal.specs.Refusal.{_when_, first, numbered}
 use Rattle.refusal.proofs.FirstLaws.{first-zero, first-skip, first-here, first-end, if-accepted, not-refused}
 use Rattle.numbers.proofs.Truth.{neither}
+use Rattle.numbers.proofs.Walk.{cases}
 use Rattle.division.specs.Bits.{odd, bits, bytesBits, bytesOf, AreBytes}
 use Rattle.division.proofs.BitsLaws.{length-bits}
 use Rattle.division.proofs.BytesLaws.{bytes-append, bytes-inj, are-bytes-of, are-bytes-append, bits-bytes-of}
@@ -26,9 +28,9 @@ use Rattle.base_types.specs.Cycle.{highestCycle, cycleTooHigh}
 use Rattle.header.specs.Refusals.{startupWithoutSync}
 use Rattle.frame.specs.declared.Reading.the-variants.{Accepted}
 use Rattle.writing.specs.declared.Writing.{Writing}
-use Rattle.writing.specs.declared.Writing.the-variants.{Written, ReservedSet}
+use Rattle.writing.specs.declared.Writing.the-variants.{Written, ReservedSet, NullFrameNotEmpty}
 use Rattle.frame.specs.Layout.{frameBits, frameChecksumOf, Frame}
-use Rattle.writing.specs.Refusals.{badPayload, outputTooShort}
+use Rattle.writing.specs.Refusals.{badPayload, nullFrameNotEmpty, outputTooShort}
 use Rattle.frame.specs.Read as read
 use Rattle.frame.specs.Read.{headerRead, payloadRead, refusalsOn, ReadSays, PayloadSays}
 use Rattle.writing.specs.Write as write
@@ -36,9 +38,10 @@ use Rattle.lent_bytes.specs.Over.{over}
 use Rattle.writing.specs.Write.{headerOf, headerAndPayload, frameBytes, WriteSays}
 use Rattle.lent_bytes.proofs.OverLaws.{take-over, drop-over, length-over}
 use Rattle.writing.proofs.WriteLaws.{length-frame, write-refused, write-accepted}
-use Rattle.frame_claims.specs.Exact.{FrameOn, fieldsOf, ReadExactly, WriteGivesFrame, WriteGivesOnly, ReadThenWrite, ReservedNotWritten, WriteThenRead}
+use Rattle.frame_claims.specs.Exact.{FrameOn, fieldsOf, ReadExactly, WriteGivesFrame, WriteGivesOnly, EmptyIfNull, NullNotEmpty, WriteGivesEmpty, ReadAndWritten, ComesBack, ReadThenWrite, ReservedNotWritten, NullNotWritten, WrittenAgain, TwoExceptions, WriteThenRead}
 use Rattle.frame_claims.proofs.Answers.{read-one, write-one}
 use Rattle.frame_claims.proofs.FrameLaws.{length-whole, frame-size, good-payload, from-fields}
+use Rattle.frame_claims.proofs.NullFrames.{empty-by, not-empty-by, by-empty, by-not-empty}
 use Rattle.frame_claims.proofs.Reading.{only-with, with-only, accepted-frame, frame-header, frame-payload, frame-accepted}
 
 -- ---- reading
@@ -152,6 +155,10 @@ module _ (channel : ℕ) (fields : Fields) (payload before after : List ℕ) (w 
   unfolding numbered
   room = ltb-false (length before) (8 + length payload) (not-refused (write.refusals channel fields payload before) refl none 13)
 
+  pub null-empty : EmptyIfNull (fields .«null_frame_bit») payload
+  unfolding numbered
+  null-empty = empty-by (fields .«null_frame_bit») payload (not-refused (write.refusals channel fields payload before) refl none 26)
+
   after-is : after ≡ over frame before
   after-is = says .writes ∙ if-accepted (write.refusal channel fields payload before) (over frame before) before none
 
@@ -201,6 +208,10 @@ pub write-gives-only : WriteGivesOnly
 write-gives-only channel fields payload before after size are says =
     front-only channel fields payload before after (Written size) says (none-by says) are
 
+pub write-gives-empty : WriteGivesEmpty
+write-gives-empty channel fields payload before after size says =
+    null-empty channel fields payload before after (Written size) says (none-by says)
+
 -- ---- both round trips
 
 pub write-then-read : WriteThenRead
@@ -210,10 +221,10 @@ write-then-read channel fields payload before after size are says r part reads g
     let both = read-exactly channel (take size after) r part (front .frame .areBytes) reads gives header payload .1 front in
     (header, both .0, refl, both .1)
 
--- of a frame's own fields and payload, all that could be refused is the reserved bit or the room
+-- of a frame's own fields and payload, all that could be refused is the reserved bit, a null frame that is not empty, or the room
 module _ (channel : ℕ) (bytes : List ℕ) (header : Header) (payload before : List ℕ) (f : FrameOn channel bytes header payload) where
   to-reserved : write.refusal channel (fieldsOf header) payload before
-      ≡ first (12 when header .reserved ∷ 13 when outputTooShort payload before ∷ [])
+      ≡ first (12 when header .reserved ∷ 26 when nullFrameNotEmpty (header .«null_frame_bit») payload ∷ 13 when outputTooShort payload before ∷ [])
   to-reserved =
       let g = f .frame in
       first-skip 1 _ (named-is channel (f .on) (f .named) .0)
@@ -226,13 +237,22 @@ module _ (channel : ℕ) (bytes : List ℕ) (header : Header) (payload before : 
   reserved-refused set =
       write-refused channel (fieldsOf header) payload before ReservedSet 11 refl (to-reserved ∙ first-here 12 _ set)
 
-  pub written-again : header .reserved ≡ false → length bytes ≤ length before
+  pub null-refused : header .reserved ≡ false → NullNotEmpty (header .«null_frame_bit») payload
+      → WriteSays channel (fieldsOf header) payload before before NullFrameNotEmpty
+  null-refused clear full =
+      write-refused channel (fieldsOf header) payload before NullFrameNotEmpty 25 refl
+      (to-reserved ∙ first-skip 12 _ clear ∙ first-here 26 _ (by-not-empty (header .«null_frame_bit») payload full))
+
+  long-again : length bytes ≡ 8 + length payload
+  long-again = frame-size (f .frame) ∙ omega (arith, f .frame .payloadLength)
+
+  pub written-again : ComesBack header payload bytes before
       → WriteSays channel (fieldsOf header) payload before (over bytes before) (Written (length bytes))
-  written-again clear room =
+  written-again back =
       let g = f .frame in
-      let size : length bytes ≡ 8 + length payload = frame-size g ∙ omega (arith, g .payloadLength) in
-      let fits : outputTooShort payload before ≡ false = le-ltb (length before) (8 + length payload) (omega arith) in
-      let none = to-reserved ∙ first-skip 12 _ clear ∙ first-skip 13 _ fits ∙ first-end in
+      let empty = by-empty (header .«null_frame_bit») payload (back .1) in
+      let fits : outputTooShort payload before ≡ false = le-ltb (length before) (8 + length payload) (omega (arith, back .2, long-again)) in
+      let none = to-reserved ∙ first-skip 12 _ (back .0) ∙ first-skip 26 _ empty ∙ first-skip 13 _ fits ∙ first-end in
       let channel-is : channelOf channel ≡ f .on = named-is channel (f .on) (f .named) .1 in
       let again : frameBytes (channelOf channel) (fieldsOf header) payload ≡ bytes =
       bytes-inj (frameBytes (channelOf channel) (fieldsOf header) payload) bytes (written-are (channelOf channel) (fieldsOf header) payload (g .payloadAreBytes)) (g .areBytes)
@@ -240,17 +260,48 @@ module _ (channel : ℕ) (bytes : List ℕ) (header : Header) (payload before : 
       ∙ ap₂ (λ (k : Channel) (h : Header). frameBits h payload (frameChecksumOf k h payload)) channel-is
       (from-fields header payload (g .payloadLength) (g .checksum))
       ∙ sym (g .layout)) in
-      write-accepted channel (fieldsOf header) payload before (over bytes before) (length bytes) none size
+      write-accepted channel (fieldsOf header) payload before (over bytes before) (length bytes) none long-again
       (ap (λ (x : List ℕ). over x before) (sym again))
 
+  -- the number, whichever it is
+  pub number-again : {n : ℕ} → n ≡ write.refusal channel (fieldsOf header) payload before → WrittenAgain header payload bytes before n
+  number-again e =
+      let bit = header .«null_frame_bit» in
+      cases (header .reserved)
+      (λ set. inr (inl (e ∙ to-reserved ∙ first-here 12 _ set, set)))
+      (λ clear.
+      let past12 = e ∙ to-reserved ∙ first-skip 12 _ clear in
+      cases (nullFrameNotEmpty bit payload)
+      (λ full. inr (inr (inl (past12 ∙ first-here 26 _ full, clear, not-empty-by bit payload full))))
+      (λ none.
+      let past26 = past12 ∙ first-skip 26 _ none in
+      let empty = empty-by bit payload none in
+      cases (outputTooShort payload before)
+      (λ short. inr (inr (inr (past26 ∙ first-here 13 _ short, clear, empty, omega (arith, ltb-true (length before) (8 + length payload) short, long-again)))))
+      (λ fits. inl (past26 ∙ first-skip 13 _ fits ∙ first-end, (clear, empty, omega (arith, ltb-false (length before) (8 + length payload) fits, long-again))))))
+
+-- what was read is a frame
+frame-read : (channel : ℕ) (bytes : List ℕ) (header : Header) (part before after : List ℕ) (w : Writing)
+    → ReadAndWritten channel bytes header part before after w → FrameOn channel bytes header part
+frame-read channel bytes header part before after w h =
+    read-exactly channel bytes (Accepted header) part (h .areBytes) (h .reads) (h .gives) header part .0 (refl, refl)
+
 pub read-then-write : ReadThenWrite
-read-then-write channel bytes header part are reads gives before after w writes clear room =
-    let f = read-exactly channel bytes (Accepted header) part are reads gives header part .0 (refl, refl) in
-    write-one channel (fieldsOf header) part before after (over bytes before) w (Written (length bytes)) writes
-    (written-again channel bytes header part before f clear room)
+read-then-write channel bytes header part before after w h back =
+    write-one channel (fieldsOf header) part before after (over bytes before) w (Written (length bytes)) (h .writes)
+    (written-again channel bytes header part before (frame-read channel bytes header part before after w h) back)
 
 pub reserved-not-written : ReservedNotWritten
-reserved-not-written channel bytes header part are reads gives before after w writes set =
-    let f = read-exactly channel bytes (Accepted header) part are reads gives header part .0 (refl, refl) in
-    write-one channel (fieldsOf header) part before after before w ReservedSet writes
-    (reserved-refused channel bytes header part before f set)
+reserved-not-written channel bytes header part before after w h set =
+    write-one channel (fieldsOf header) part before after before w ReservedSet (h .writes)
+    (reserved-refused channel bytes header part before (frame-read channel bytes header part before after w h) set)
+
+pub null-not-written : NullNotWritten
+null-not-written channel bytes header part before after w h clear full =
+    write-one channel (fieldsOf header) part before after before w NullFrameNotEmpty (h .writes)
+    (null-refused channel bytes header part before (frame-read channel bytes header part before after w h) clear full)
+
+pub two-exceptions : TwoExceptions
+two-exceptions channel bytes header part before after w h =
+    number-again channel bytes header part before (frame-read channel bytes header part before after w h)
+    (ap (λ (t : write.Told). t .number) (h .writes .answers))

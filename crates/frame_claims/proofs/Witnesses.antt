@@ -3,13 +3,14 @@ use Prim.Native.Nat.{ℕ, _+_, _/_, _≤_}
 use mathlib.Core.Path.{_≡_, refl, sym, ap, _∙_, subst}
 use mathlib.Core.Bool.{Bool, true, false, false≢true, cond}
 use mathlib.Core.List.{List, []}
+use mathlib.Core.Logic.{inl, inr}
 use native.Mathlib.Omega.{arith}
-use borrow.Author.Tests.{eqb-true, eqb-false, eq-eqb}
+use borrow.Author.Tests.{eqb-true, eqb-false, eq-eqb, ne-eqb}
 use lib.Dec.{eqb}
 use lib.ListN.{length, take, drop}
 use Rattle.numbers.proofs.Walk.{cases, cases-in}
-use Rattle.refusal.specs.Refusal.{first, numbered}
-use Rattle.refusal.proofs.FirstLaws.{if-refused, not-refused}
+use Rattle.refusal.specs.Refusal.{first}
+use Rattle.refusal.proofs.FirstLaws.{if-refused}
 use Rattle.division.specs.Bits.{AreBytes}
 use Rattle.base_types.specs.declared.channel.Channel.{Channel}
 use Rattle.base_types.specs.declared.channel.Channel.the-variants.{A, B}
@@ -28,10 +29,9 @@ use Rattle.writing.specs.Write as write
 use Rattle.lent_bytes.specs.Over.{over}
 use Rattle.writing.specs.Write.{headerOf, frameBytes, WriteSays}
 use Rattle.frame_claims.specs.Damage.{BothAccepted}
-use Rattle.frame_claims.specs.Exact.{FrameOn, fieldsOf, AcceptsFrames, ReadingOf, PayloadOf, Wrote, Rewritten, Sent, Reread, RereadPayload}
-use Rattle.frame_claims.proofs.Answers.{read-one, write-one, refused-unchanged}
-use Rattle.frame_claims.proofs.Exact.{frame-of, frame-none, frame-says, frame-part, read-exactly, size-is, room, same-length, rest-is, front-frame, front-only, written-again}
-use Rattle.frame_claims.proofs.FrameLaws.{frame-size}
+use Rattle.frame_claims.specs.Exact.{FrameOn, fieldsOf, AcceptsFrames, ReadingOf, PayloadOf, Wrote, ComesBack, WrittenAgain, Rewritten, Sent, Reread, RereadPayload}
+use Rattle.frame_claims.proofs.Answers.{read-one, write-one, read-in-order, refused-unchanged}
+use Rattle.frame_claims.proofs.Exact.{frame-of, frame-none, frame-says, frame-part, read-exactly, size-is, room, null-empty, same-length, rest-is, front-frame, front-only, number-again, written-again}
 use Rattle.frame_claims.proofs.Damage.{frames-apart, not-on-both}
 
 -- ---- accepted or not
@@ -97,15 +97,30 @@ of-frames channel bytes part are gives =
 
 -- ---- read, then written
 
+-- no two of the four conditions hold together, so that 0 is given exactly where its own holds
+module _ (header : Header) (payload bytes before : List ℕ) {n : ℕ} where
+  zero-exactly : WrittenAgain header payload bytes before n → ComesBack header payload bytes before → n ≡ 0
+  zero-exactly (inl z) back = z .0
+  zero-exactly (inr (inl r)) back = absurd (false≢true (sym (back .0) ∙ r .1))
+  zero-exactly (inr (inr (inl m))) back = absurd (m .2 .2 (back .1 (m .2 .0) (m .2 .1)))
+  zero-exactly (inr (inr (inr s))) back = absurd (omega (arith, s .3, back .2))
+
+  exactly-zero : WrittenAgain header payload bytes before n → n ≡ 0 → ComesBack header payload bytes before
+  exactly-zero (inl z) e = z .1
+  exactly-zero (inr (inl r)) e = absurd (omega (arith, r .0))
+  exactly-zero (inr (inr (inl m))) e = absurd (omega (arith, m .0))
+  exactly-zero (inr (inr (inr s))) e = absurd (omega (arith, s .0))
+
 pub not-rewritten : (channel : ℕ) (bytes before : List ℕ) (r : Reading) → ReadSays channel bytes r → (read.told r .number ≡ 0 → ⊥)
-    → Rewritten channel bytes before before false
+    → Rewritten channel bytes before before (read.told r .number)
 not-rewritten channel bytes before r says refused =
+    let frame-refused : (header : Header) (payload : List ℕ) → FrameOn channel bytes header payload → ⊥ =
+    λ header payload f. refused (ap (λ (t : read.Told). t .number) says ∙ frame-none f) in
     record {
-      exactly = (
-        λ t. absurd (false≢true t),
-        λ f. absurd (refused (ap (λ (t : read.Told). t .number) says ∙ frame-none (f .2))),
-      );
-      output = refl;
+      exactly = (λ e. absurd (refused e), λ f. absurd (frame-refused (f .0) (f .1) (f .2)));
+      frame = λ header payload f. absurd (frame-refused header payload f);
+      other = λ none. read-in-order channel bytes r says;
+      output = ap (λ (b : Bool). cond b (over bytes before) before) (sym (ne-eqb (read.told r .number) 0 refused));
     }
 
 module _ (channel : ℕ) (bytes before after part : List ℕ) (r : Reading) (w : Writing)
@@ -122,40 +137,33 @@ module _ (channel : ℕ) (bytes before after part : List ℕ) (r : Reading) (w :
       subst (λ (x : List ℕ). WriteSays channel (fieldsOf header) x before after w) (e .1)
       (subst (λ (x : Header). WriteSays channel (fieldsOf x) part before after w) (ap (λ (x : Reading). read.told x .header) (e .0)) writes)
 
-  -- where it was written, the reserved bit was 0 and there was room
-  if-written : eqb (write.told w .number) 0 ≡ true → (headerRead bytes .reserved ≡ false) × (length bytes ≤ length before)
-  unfolding numbered
-  if-written t =
-      let fields = fieldsOf (headerRead bytes) in
-      let says = same-write (headerRead bytes) (payloadRead bytes) here in
-      let none : write.refusal channel fields (payloadRead bytes) before ≡ 0 =
-      sym (ap (λ (t : write.Told). t .number) (says .answers)) ∙ eqb-true (write.told w .number) 0 t in (
-        not-refused (write.refusals channel fields (payloadRead bytes) before) refl none 12,
-        omega (
-          arith,
-          room channel fields (payloadRead bytes) before after w says none,
-          frame-size (here .frame),
-          here .frame .payloadLength,
-        ),
-      )
+  again : (header : Header) (payload : List ℕ) → FrameOn channel bytes header payload
+      → WrittenAgain header payload bytes before (write.told w .number)
+  again header payload f =
+      number-again channel bytes header payload before f (ap (λ (t : write.Told). t .number) (same-write header payload f .answers))
 
-  -- where the reserved bit is 0 and there is room, it was written
-  was-written : (header : Header) (payload : List ℕ) → FrameOn channel bytes header payload → header .reserved ≡ false
-      → length bytes ≤ length before → (w ≡ Written (length bytes)) × (after ≡ over bytes before)
-  was-written header payload f clear room =
-      write-one channel (fieldsOf header) payload before after (over bytes before) w (Written (length bytes)) (same-write header payload f)
-      (written-again channel bytes header payload before f clear room)
+  back : write.told w .number ≡ 0 → ComesBack (headerRead bytes) (payloadRead bytes) bytes before
+  back = exactly-zero (headerRead bytes) (payloadRead bytes) bytes before (again (headerRead bytes) (payloadRead bytes) here)
 
-  pub was-rewritten : Rewritten channel bytes before after (eqb (write.told w .number) 0)
+  -- where nothing was refused, it is what it was
+  was-written : write.told w .number ≡ 0 → after ≡ over bytes before
+  was-written e =
+      write-one channel (fieldsOf (headerRead bytes)) (payloadRead bytes) before after (over bytes before) w (Written (length bytes))
+      (same-write (headerRead bytes) (payloadRead bytes) here)
+      (written-again channel bytes (headerRead bytes) (payloadRead bytes) before here (back e)) .1
+
+  pub was-rewritten : Rewritten channel bytes before after (write.told w .number)
   was-rewritten =
       record {
         exactly = (
-          λ t. (headerRead bytes, payloadRead bytes, here, if-written t .0, if-written t .1),
-          λ f. ap (λ (x : Writing). eqb (write.told x .number) 0) (was-written (f .0) (f .1) (f .2) (f .3) (f .4) .0),
+          λ e. (headerRead bytes, payloadRead bytes, here, back e),
+          λ f. zero-exactly (f .0) (f .1) bytes before (again (f .0) (f .1) (f .2)) (f .3),
         );
+        frame = again;
+        other = λ none. absurd (none (headerRead bytes, payloadRead bytes, here));
         output =
             cases-in (λ b. after ≡ cond b (over bytes before) before) (eqb (write.told w .number) 0)
-            (λ t. was-written (headerRead bytes) (payloadRead bytes) here (if-written t .0) (if-written t .1) .1)
+            (λ t. was-written (eqb-true (write.told w .number) 0 t))
             (λ t. refused-unchanged channel (fieldsOf (read.told r .header)) part before after w writes (eqb-false (write.told w .number) 0 t));
       }
 
@@ -194,6 +202,7 @@ module _ (channel : ℕ) (fields : Fields) (payload before after : List ℕ) (w 
         record {
           frame = was-sent;
           only = λ none. front-only channel fields payload before after w says none are;
+          empty = null-empty channel fields payload before after w says;
           behind =
               cases (eqb (write.refusal channel fields payload before) 0)
               (λ t. rest-is channel fields payload before after w says (eqb-true (write.refusal channel fields payload before) 0 t))

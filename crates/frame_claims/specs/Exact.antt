@@ -1,11 +1,13 @@
 -- Claims about what is accepted and what is written. The customer's second condition: a byte string is accepted exactly when 01 calls it
 -- a frame, and writing gives exactly the bytes that read back as the same frame.
-use Prim.Native.Nat.{ℕ, _≤_}
+use Prim.Native.Nat.{ℕ, _<_, _≤_}
 use mathlib.Core.Path.{_≡_}
 use mathlib.Core.Bool.{Bool, true, false, cond}
 use mathlib.Core.List.{List, []}
-use mathlib.Core.Logic.{_↔_}
-use lib.ListN.{length, take, drop}
+use mathlib.Core.Logic.{_⊎_, _↔_}
+use lib.Dec.{eqb}
+use lib.ListN.{length, getD, take, drop}
+use Rattle.refusal.specs.Refusal.{InOrder}
 use Rattle.division.specs.Bits.{AreBytes}
 use Rattle.base_types.specs.declared.channel.Channel.{Channel}
 use Rattle.base_types.specs.declared.channel.Named.the-variants.{Is}
@@ -15,11 +17,12 @@ use Rattle.header.specs.declared.Fields.{Fields}
 use Rattle.frame.specs.declared.Reading.{Reading}
 use Rattle.frame.specs.declared.Reading.the-variants.{Accepted}
 use Rattle.writing.specs.declared.Writing.{Writing}
-use Rattle.writing.specs.declared.Writing.the-variants.{Written, ReservedSet}
+use Rattle.writing.specs.declared.Writing.the-variants.{Written, ReservedSet, NullFrameNotEmpty}
 use Rattle.frame.specs.Layout.{Frame}
 use Rattle.frame.specs.Read.{ReadSays, PayloadSays}
+use Rattle.frame.specs.Read.{refusals as read·refusals}
 use Rattle.lent_bytes.specs.Over.{over}
-use Rattle.writing.specs.Write.{refusal, WriteSays}
+use Rattle.writing.specs.Write.{told, refusal, WriteSays}
 
 -- These bytes are a frame on the channel that this number names, with this header and this payload.
 pub record FrameOn (channel : ℕ) (bytes : List ℕ) (header : Header) (payload : List ℕ) : Type 0 where
@@ -67,23 +70,75 @@ WriteGivesOnly =
     → (bytes : List ℕ) (header : Header) → fieldsOf header ≡ fields → FrameOn channel bytes header payload
     → bytes ≡ take size after
 
--- "Reading then writing gives the same bytes": where the reserved bit is 0 and there is room.
+-- ---- null frames (02, C-16), by the null frame bit, which is 0 in a null frame, and the payload
+
+-- "all payload bytes of a null frame are zero". (Past the end of a list `getD` gives the 0 that stands here.)
+abbrev pub EmptyIfNull : Bool → List ℕ → Type 0
+EmptyIfNull bit payload = bit ≡ false → (i : ℕ) → getD payload i 0 ≡ 0
+
+-- "a null frame with a payload byte other than 0".
+abbrev pub NullNotEmpty : Bool → List ℕ → Type 0
+NullNotEmpty bit payload = (bit ≡ false) × (i : ℕ) × (getD payload i 0 ≡ 0 → ⊥)
+
+-- What is written is empty if it is a null frame.
+abbrev pub WriteGivesEmpty : Type 0
+WriteGivesEmpty =
+    (channel : ℕ) (fields : Fields) (payload before after : List ℕ) (size : ℕ)
+    → WriteSays channel fields payload before after (Written size)
+    → EmptyIfNull (fields .«null_frame_bit») payload
+
+-- ---- both round trips
+
+-- `read` accepts these bytes with a header, `payload` gives a part of them, and `write` answers w for what was read.
+pub record ReadAndWritten (channel : ℕ) (bytes : List ℕ) (header : Header) (part before after : List ℕ) (w : Writing) : Type 0 where
+  pub areBytes : AreBytes bytes
+  pub reads : ReadSays channel bytes (Accepted header)
+  pub gives : PayloadSays channel bytes part
+  pub writes : WriteSays channel (fieldsOf header) part before after w
+
+-- Neither exception holds, and there is room.
+abbrev pub ComesBack : Header → List ℕ → List ℕ → List ℕ → Type 0
+ComesBack header payload bytes before =
+    (header .reserved ≡ false) × EmptyIfNull (header .«null_frame_bit») payload × (length bytes ≤ length before)
+
+-- "Reading then writing gives the same bytes".
 abbrev pub ReadThenWrite : Type 0
 ReadThenWrite =
-    (channel : ℕ) (bytes : List ℕ) (header : Header) (part : List ℕ)
-    → AreBytes bytes → ReadSays channel bytes (Accepted header) → PayloadSays channel bytes part
-    → (before after : List ℕ) (w : Writing) → WriteSays channel (fieldsOf header) part before after w
-    → header .reserved ≡ false → length bytes ≤ length before
+    (channel : ℕ) (bytes : List ℕ) (header : Header) (part before after : List ℕ) (w : Writing)
+    → ReadAndWritten channel bytes header part before after w
+    → ComesBack header part bytes before
     → (w ≡ Written (length bytes)) × (after ≡ over bytes before)
 
 -- "unless the reserved bit is 1 (refusal 12)".
 abbrev pub ReservedNotWritten : Type 0
 ReservedNotWritten =
-    (channel : ℕ) (bytes : List ℕ) (header : Header) (part : List ℕ)
-    → AreBytes bytes → ReadSays channel bytes (Accepted header) → PayloadSays channel bytes part
-    → (before after : List ℕ) (w : Writing) → WriteSays channel (fieldsOf header) part before after w
+    (channel : ℕ) (bytes : List ℕ) (header : Header) (part before after : List ℕ) (w : Writing)
+    → ReadAndWritten channel bytes header part before after w
     → header .reserved ≡ true
     → (w ≡ ReservedSet) × (after ≡ before)
+
+-- The other exception (02, C-16): a null frame that is not empty (refusal 26).
+abbrev pub NullNotWritten : Type 0
+NullNotWritten =
+    (channel : ℕ) (bytes : List ℕ) (header : Header) (part before after : List ℕ) (w : Writing)
+    → ReadAndWritten channel bytes header part before after w
+    → header .reserved ≡ false → NullNotEmpty (header .«null_frame_bit») part
+    → (w ≡ NullFrameNotEmpty) × (after ≡ before)
+
+-- The number that writing gives for what was read: 0, that of an exception, or 13 for want of room. No two of the four conditions can hold
+-- together, so that each number is given exactly where its own holds; and there is no third exception.
+abbrev pub WrittenAgain : Header → List ℕ → List ℕ → List ℕ → ℕ → Type 0
+WrittenAgain header payload bytes before n =
+    ((n ≡ 0) × ComesBack header payload bytes before)
+    ⊎ ((n ≡ 12) × (header .reserved ≡ true))
+    ⊎ ((n ≡ 26) × (header .reserved ≡ false) × NullNotEmpty (header .«null_frame_bit») payload)
+    ⊎ ((n ≡ 13) × (header .reserved ≡ false) × EmptyIfNull (header .«null_frame_bit») payload × (length before < length bytes))
+
+abbrev pub TwoExceptions : Type 0
+TwoExceptions =
+    (channel : ℕ) (bytes : List ℕ) (header : Header) (part before after : List ℕ) (w : Writing)
+    → ReadAndWritten channel bytes header part before after w
+    → WrittenAgain header part bytes before (told w .number)
 
 -- "Writing then reading gives the same fields and payload."
 abbrev pub WriteThenRead : Type 0
@@ -109,21 +164,25 @@ pub record PayloadOf (channel : ℕ) (bytes part : List ℕ) : Type 0 where
   pub other : (IsFrame channel bytes → ⊥) → part ≡ []
 
 -- `written`: where nothing is refused, the front of the output, of the size that comes back, is a frame with these fields and this
--- payload, no other bytes are one, and what stands behind it is as it was. With a refusal the size is 0 and the output as it was.
+-- payload, no other bytes are one, a null frame is empty, and what stands behind it is as it was. With a refusal the size is 0 and the
+-- output as it was.
 pub record Wrote (channel : ℕ) (fields : Fields) (payload before after : List ℕ) (size : ℕ) : Type 0 where
   pub frame : refusal channel fields payload before ≡ 0
       → (header : Header) × (fieldsOf header ≡ fields) × FrameOn channel (take size after) header payload
   pub only : refusal channel fields payload before ≡ 0
       → (bytes : List ℕ) (header : Header) → fieldsOf header ≡ fields → FrameOn channel bytes header payload → bytes ≡ take size after
+  pub empty : refusal channel fields payload before ≡ 0 → EmptyIfNull (fields .«null_frame_bit») payload
   pub behind : drop size after ≡ drop size before
   pub refused : (refusal channel fields payload before ≡ 0 → ⊥) → (size ≡ 0) × (after ≡ before)
 
--- `rewritten`: bytes come back as they were exactly when they are a frame, its reserved bit is 0, and there is room. Otherwise nothing
--- is touched.
-pub record Rewritten (channel : ℕ) (bytes before after : List ℕ) (r : Bool) : Type 0 where
-  pub exactly : (r ≡ true)
-      ↔ (header : Header) × (payload : List ℕ) × FrameOn channel bytes header payload × (header .reserved ≡ false) × (length bytes ≤ length before)
-  pub output : after ≡ cond r (over bytes before) before
+-- `rewritten`: bytes come back as they were exactly when they are a frame, its reserved bit is 0, it is empty if it is a null frame, and
+-- there is room. Otherwise nothing is touched; the number is writing's, as said above, or reading's where the bytes are no frame.
+pub record Rewritten (channel : ℕ) (bytes before after : List ℕ) (n : ℕ) : Type 0 where
+  pub exactly : (n ≡ 0)
+      ↔ (header : Header) × (payload : List ℕ) × FrameOn channel bytes header payload × ComesBack header payload bytes before
+  pub frame : (header : Header) (payload : List ℕ) → FrameOn channel bytes header payload → WrittenAgain header payload bytes before n
+  pub other : (IsFrame channel bytes → ⊥) → InOrder (read·refusals channel bytes) n
+  pub output : after ≡ cond (eqb n 0) (over bytes before) before
 
 -- `sent`, under the next two: what was written is a frame with these fields and this payload.
 abbrev pub Sent : ℕ → Fields → List ℕ → List ℕ → List ℕ → Type 0

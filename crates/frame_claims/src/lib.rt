@@ -91,16 +91,18 @@ pub fn written(channel: u8, fields: Fields, payload: &[u8], output: &mut [u8]) -
     writing::write(channel, fields, payload, output).length()
 }
 
-// Reads bytes and writes what was read: the same bytes, unless the reserved bit is 1 or there is no room. Whether it was written.
-pub fn rewritten(channel: u8, bytes: &[u8], output: &mut [u8]) -> bool
+// Reads bytes and writes what was read: the same bytes, unless the reserved bit is 1, a null frame is not empty, or there is no room. The
+// number is reading's where it refuses, and else writing's.
+pub fn rewritten(channel: u8, bytes: &[u8], output: &mut [u8]) -> u8
     ensures { λ r. ⌜ Rewritten channel (now (bytes .entry)) (now (output .entry)) (now (output .exit)) r ⌝ }
 {
     let reading = frame::read(channel, bytes);
-    if reading.number() != 0 {
-        return false;
+    let number = reading.number();
+    if number != 0 {
+        return number;
     }
     let part = frame::payload(channel, bytes);
-    writing::write(channel, fields_of(reading.header()), part, output).number() == 0
+    writing::write(channel, fields_of(reading.header()), part, output).number()
 }
 
 // Writes a frame and gives what was written.

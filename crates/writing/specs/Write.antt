@@ -16,8 +16,8 @@ use Rattle.base_types.specs.Cycle.{cycleTooHigh}
 use Rattle.header.specs.Refusals.{startupWithoutSync}
 use Rattle.lent_bytes.specs.Over.{over}
 use Rattle.writing.specs.declared.Writing.{Writing}
-use Rattle.writing.specs.declared.Writing.the-variants.{Written, NotAChannel, NotAnId, BadPayload, CycleTooHigh, StartupWithoutSync, ReservedSet, OutputTooShort}
-use Rattle.writing.specs.Refusals.{badPayload, outputTooShort}
+use Rattle.writing.specs.declared.Writing.the-variants.{Written, NotAChannel, NotAnId, BadPayload, CycleTooHigh, StartupWithoutSync, ReservedSet, NullFrameNotEmpty, OutputTooShort}
+use Rattle.writing.specs.Refusals.{badPayload, nullFrameNotEmpty, outputTooShort}
 
 -- ---- what is written
 
@@ -62,9 +62,10 @@ told BadPayload = refused 10
 told CycleTooHigh = refused 11
 told StartupWithoutSync = refused 7
 told ReservedSet = refused 12
+told NullFrameNotEmpty = refused 26
 told OutputTooShort = refused 13
 
--- The refusals of the entry, in their order: "Write: 1, 9, 10, 11, 7, 12, 13".
+-- The refusals of the entry, in their order: "Write: 1, 9, 10, 11, 7, 12, 13", with 26 "after 12 and before 13" (02, C-16).
 abbrev pub refusals : ℕ → Fields → List ℕ → List ℕ → List Line
 refusals channel fields payload output =
     1 when notAChannel channel
@@ -73,6 +74,7 @@ refusals channel fields payload output =
     ∷ 11 when cycleTooHigh (fields .cycle .0)
     ∷ 7 when startupWithoutSync (fields .startup) (fields .sync)
     ∷ 12 when fields .reserved
+    ∷ 26 when nullFrameNotEmpty (fields .«null_frame_bit») payload
     ∷ 13 when outputTooShort payload output
     ∷ []
 

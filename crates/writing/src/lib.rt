@@ -5,7 +5,7 @@ ghost use mathlib.Core.Path.{_≡_};
 ghost use Prim.Native.Nat.{_+_, _≤_};
 ghost use lib.ListN.{length};
 ghost use Rattle.header.specs.Layout.{mostPayload};
-ghost use Rattle.writing.specs.Refusals.{badPayload};
+ghost use Rattle.writing.specs.Refusals.{badPayload, someNotZero, nullFrameNotEmpty};
 ghost use Rattle.lent_bytes.specs.Over.{over};
 ghost use Rattle.writing.specs.Write.{headerOf, frameBytes, told, WriteSays};
 ghost use Rattle.division.specs.Bits.{bits, bytesOf};
@@ -23,6 +23,7 @@ pub enum Writing {
     CycleTooHigh,
     StartupWithoutSync,
     ReservedSet,
+    NullFrameNotEmpty,
     OutputTooShort,
 }
 
@@ -39,6 +40,7 @@ impl Writing {
             Writing::CycleTooHigh => 11,
             Writing::StartupWithoutSync => 7,
             Writing::ReservedSet => 12,
+            Writing::NullFrameNotEmpty => 26,
             Writing::OutputTooShort => 13,
         }
     }
@@ -74,11 +76,15 @@ pub fn write(channel: u8, fields: Fields, payload: &[u8], output: &mut [u8]) -> 
     if header::startup_without_sync(fields.startup, fields.sync) {
         return Writing::StartupWithoutSync;
     }
-    // Worked out before 12 is tried (DECISIONS 70): a build that tries 13 before 12 then differs in the order alone, and is refused for
-    // it.
+    // Both are worked out before 12 is tried (DECISIONS 70): a build that tries 12, 26 and 13 in another order then differs in the order
+    // alone, and is refused for it.
+    let not_empty = null_frame_not_empty(fields.null_frame_bit, payload);
     let size = payload.len() + 8;
     if fields.reserved {
         return Writing::ReservedSet;
+    }
+    if not_empty {
+        return Writing::NullFrameNotEmpty;
     }
     if output.len() < size {
         return Writing::OutputTooShort;
@@ -95,6 +101,31 @@ fn is_bad(payload: &[u8]) -> bool
         return true;
     }
     Header::MOST_PAYLOAD < payload.len()
+}
+
+// Refusal 26 (document 02, C-16). In a null frame the bit is clear; of any other frame the payload is not looked at.
+fn null_frame_not_empty(null_frame_bit: bool, payload: &[u8]) -> bool
+    ensures { λ r. ⌜ r ≡ nullFrameNotEmpty «null_frame_bit» (now (payload .entry)) ⌝ }
+{
+    if null_frame_bit {
+        return false;
+    }
+    some_not_zero(payload)
+}
+
+// Whether some byte is other than 0.
+fn some_not_zero(bytes: &[u8]) -> bool
+    ensures { λ r. ⌜ r ≡ someNotZero (now (bytes .entry)) ⌝ }
+{
+    let mut i = 0;
+    while i < bytes.len() {
+        let byte = bytes[i];
+        i += 1;
+        if byte != 0 {
+            return true;
+        }
+    }
+    false
 }
 
 // The header with these fields, before a payload of this many words.

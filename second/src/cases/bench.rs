@@ -4,14 +4,12 @@ use crate::bench::LONGEST_INPUT;
 use crate::channel::Channel;
 use crate::draft::{Draft, FOREIGN_CHANNELS};
 use crate::faults::{faulty_bench, selections};
-use crate::frame::{HIGHEST_CYCLE, HIGHEST_ID, LARGEST_FRAME, MOST_WORDS, SMALLEST_FRAME};
+use crate::frame::{HIGHEST_CYCLE, HIGHEST_ID, LARGEST_FRAME, MOST_WORDS, NULL_FRAME_BIT, SMALLEST_FRAME};
 use crate::listed_frames::{self, LONG, SHORT};
 use crate::plan::{Expected, Plan};
 use crate::random::Random;
 use crate::refusal::READ_ORDER;
 use crate::script::{Command, LIMIT};
-
-const NULL_FRAME_BIT: u8 = 0b00100;
 
 pub fn add(plan: &mut Plan, random: &mut Random) {
     SHORT_INPUTS.iter().for_each(|(input, line)| add_listed(plan, input, line));
@@ -98,7 +96,7 @@ fn add_beyond(plan: &mut Plan, random: &mut Random, channel: u8, line: &str) {
     }
 }
 
-fn add_accepted(plan: &mut Plan, draft: &Draft) {
+pub(super) fn add_accepted(plan: &mut Plan, draft: &Draft) {
     let line = format!("accepted {} {} {}", draft.id, draft.cycle, draft.words);
     plan.add(Command::bench(draft.channel.number(), &draft.bytes()), Expected::Line(line));
 }

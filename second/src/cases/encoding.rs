@@ -30,8 +30,8 @@ fn add_encode(plan: &mut Plan, encode: Encode, expected: Expected) {
 }
 
 /// A taken encoding of this frame, in a room for just its packed bits.
-fn exact(draft: &Draft, start: u8) -> Encode {
-    Encode::exact(OnChannel { channel: draft.channel.number(), bytes: draft.bytes() }, start)
+pub(super) fn exact(draft: &Draft, start: u8) -> Encode {
+    Encode::exact(draft.on_channel(), start)
 }
 
 fn sized_encode(random: &mut Random, channel: Channel, words: u8) -> Encode {

@@ -3,7 +3,7 @@
 use crate::channel::Channel;
 use crate::draft::Draft;
 use crate::frame::{LARGEST_FRAME, MOST_WORDS};
-use crate::listed_frames::{ListedFrame, SHORT};
+use crate::listed_frames::SHORT;
 use crate::plan::{Expected, Plan};
 use crate::random::Random;
 use crate::refusal::Refusal;
@@ -32,15 +32,15 @@ fn add_header(plan: &mut Plan) {
         plan.add(Command::read(number, &own), Expected::line("read 0 0 0 1 0 0 1 0 1695 0 -"));
         plan.add(Command::read(number, &SHORT.bytes(channel.other())), Expected::Refused(Refusal::FrameChecksum));
         for spare in [0, 1, 5] {
-            add_written_header(plan, number, &own, spare);
+            add_written_header(plan, channel, &own, spare);
         }
     }
 }
 
 /// The bytes after the frame stay as they were lent.
-fn add_written_header(plan: &mut Plan, channel: u8, frame: &[u8], spare: usize) {
-    let ListedFrame { flags, id, cycle, .. } = SHORT;
-    let write = Write { channel, flags, id, cycle, payload: vec![], room: frame.len() + spare };
+fn add_written_header(plan: &mut Plan, channel: Channel, frame: &[u8], spare: usize) {
+    let exact = SHORT.write(channel);
+    let write = Write { room: exact.room + spare, ..exact };
     let written: String = frame.iter().map(|byte| format!("{byte:02x}")).collect();
     plan.add(Command::Write(write), Expected::Line(format!("write 0 8 {written}{}", "a5".repeat(spare))));
 }

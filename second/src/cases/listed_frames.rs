@@ -4,12 +4,11 @@ use crate::bits;
 use crate::channel::Channel;
 use crate::checksum::{self, FRAME_FACTORS, HEADER_FACTORS};
 use crate::draft::Draft;
+use crate::frame::NULL_FRAME_BIT;
 use crate::listed_frames::{self, ListedFrame};
 use crate::plan::{Expected, Plan};
 use crate::random::Random;
-use crate::script::{Command, Write};
-
-const NULL_FRAME_BIT: u8 = 0b00100;
+use crate::script::Command;
 
 pub fn add(plan: &mut Plan, random: &mut Random) {
     for channel in Channel::BOTH {
@@ -42,10 +41,7 @@ fn add_whole_frame(plan: &mut Plan, channel: Channel, frame: &ListedFrame) {
     let read = format!("read 0 {} {}", frame.fields, hex(frame.payload));
     add_number(plan, Command::read(channel.number(), &bytes), read);
     add_number(plan, Command::read(channel.other().number(), &bytes), "read 8 -".to_string());
-    let ListedFrame { flags, id, cycle, .. } = *frame;
-    let payload = frame.payload.to_vec();
-    let write = Write { channel: channel.number(), flags, id, cycle, payload, room: bytes.len() };
-    add_number(plan, Command::Write(write), format!("write 0 {} {}", bytes.len(), hex(&bytes)));
+    add_number(plan, Command::Write(frame.write(channel)), format!("write 0 {} {}", bytes.len(), hex(&bytes)));
     let [high, middle, low] = frame.trailer(channel);
     let checksum = u32::from_be_bytes([0, high, middle, low]);
     let covered = &bytes[..bytes.len() - 3];

@@ -1,16 +1,18 @@
-//! What is written is read back, and what was read is written again (01 "Frame layout").
+//! What is written is read back, and what was read is written again (01 "Frame layout"), the second with the two
+//! exceptions of 02 C-16.
 
 use crate::answer::Answer;
 use crate::channel::Channel;
 use crate::draft::{fair_words, Draft};
 use crate::faults::fair_write;
 use crate::frame::{self, Fields, MOST_WORDS};
+use crate::payloads;
 use crate::plan::{Expected, Plan};
 use crate::random::Random;
 use crate::refusal::Refusal;
-use crate::script::{Command, OnChannel, Write};
+use crate::script::{Command, Write};
 
-const ROUNDS: usize = 150;
+const ROUNDS: usize = 100;
 
 pub fn add(plan: &mut Plan, random: &mut Random) {
     for words in 0..=MOST_WORDS {
@@ -27,7 +29,7 @@ pub fn add(plan: &mut Plan, random: &mut Random) {
 }
 
 fn add_written_then_read(plan: &mut Plan, random: &mut Random, channel: Channel, words: u8) {
-    let write = fair_write(random, channel, words);
+    let write = fair_write(random, channel, 2 * usize::from(words));
     let mut frame = vec![0; write.room];
     frame::write(write.channel, &write.given(), &write.payload, &mut frame).expect("a fair write is taken");
     let read_back = Answer::Read(Ok(fields_of(&write)), write.payload.clone()).line();
@@ -51,25 +53,27 @@ fn fields_of(write: &Write) -> Fields {
 
 fn add_read_then_written(plan: &mut Plan, random: &mut Random, channel: Channel, words: u8) {
     let draft = Draft::fair(random, channel, words);
-    add_rewritten_reserved(plan, &draft);
-    let draft = draft.writable();
-    let frame = draft.bytes();
-    let again = Answer::Write(Ok(frame.len()), frame.clone()).line();
-    plan.add(Command::read(channel.number(), &frame), Expected::Accepted);
-    plan.add(rewrite(&draft), Expected::Line(again));
+    let mut drafts = vec![draft.clone(), draft.clone().unreserved(), draft.writable()];
+    // Two of them are the same where one of the exceptions doesn't hold.
+    drafts.dedup();
+    drafts.iter().for_each(|draft| add_rewritten(plan, draft));
 }
 
-/// The one frame that is read but can't be written again.
-fn add_rewritten_reserved(plan: &mut Plan, draft: &Draft) {
-    if !draft.indicators.reserved {
-        return;
+/// A good frame is read, and what the read gives is written.
+pub(super) fn add_rewritten(plan: &mut Plan, draft: &Draft) {
+    let line = Answer::Read(Ok(draft.fields()), draft.payload.clone()).line();
+    plan.add(Command::Read(draft.on_channel()), Expected::Line(line));
+    plan.add(Command::Write(draft.again()), rewritten(draft));
+}
+
+/// The same bytes, but for the frames that are read and can't be written again.
+fn rewritten(draft: &Draft) -> Expected {
+    if draft.indicators.reserved {
+        return Expected::Refused(Refusal::ReservedToWrite);
     }
-    plan.add(Command::read(draft.channel.number(), &draft.bytes()), Expected::Accepted);
-    plan.add(rewrite(draft), Expected::Refused(Refusal::ReservedToWrite));
-}
-
-/// A write of what a read of the draft's bytes gives.
-fn rewrite(draft: &Draft) -> Command {
-    let read = OnChannel { channel: draft.channel.number(), bytes: draft.bytes() };
-    Command::Write(Write::again(&read).expect("a fair frame is accepted"))
+    if !draft.indicators.null_frame && !payloads::places(&draft.payload).is_empty() {
+        return Expected::Refused(Refusal::NullFramePayload);
+    }
+    let frame = draft.bytes();
+    Expected::Line(Answer::Write(Ok(frame.len()), frame).line())
 }

@@ -41,6 +41,9 @@ pub fn add(plan: &mut Plan, random: &mut Random) {
         add_unsound(plan, random, pair);
         add_repaired(plan, random, pair);
     }
+    for kind in Kind::BOTH {
+        add_reasons_beside_valid(plan, random, kind);
+    }
 }
 
 /// Every event is refused and leaves the status as it was put.
@@ -116,6 +119,18 @@ fn holding(slot: &Scene, header: HeaderNumbers) -> StatusNumbers {
 
 fn good_header(random: &mut Random, slot: &Scene) -> HeaderNumbers {
     HeaderNumbers::of(&slot.good(random).fields())
+}
+
+/// Beside a kept frame each reason is sound, (f) among them.
+fn add_reasons_beside_valid(plan: &mut Plan, random: &mut Random, kind: Kind) {
+    for reason in Reason::ALL {
+        let slot = Scene::any_of(random, kind);
+        let marks = Mark::Valid.bit() | Mark::ContentError.bit();
+        let kept = holding(&slot, good_header(random, &slot));
+        let before = StatusNumbers { marks, reason: reason.number(), ..kept };
+        let good = Happening::Good(slot.good(random));
+        play_put(plan, &before, &[good, Happening::Boundary, Happening::OwnSending]);
+    }
 }
 
 /// "Valid" and a kept frame apart; the frame's numbers stand behind the switch in either case.

@@ -5,7 +5,7 @@ use crate::faults::{faulty_bench, faulty_checksum, faulty_encode, faulty_read, f
 use crate::history::{demanded, play_opened, show, Happening, Sort};
 use crate::plan::Plan;
 use crate::random::Random;
-use crate::refusal::{Refusal, ENCODE_ORDER, READ_ORDER};
+use crate::refusal::{Refusal, ENCODE_ORDER, READ_ORDER, WRITE_ORDER};
 use crate::scene::{Kind, Scene};
 use crate::script::Command;
 
@@ -22,6 +22,7 @@ pub fn add(plan: &mut Plan, random: &mut Random) {
         }
         add_every_answer(plan, random, channel, &READ_ORDER, faulty_bench);
         add_every_answer(plan, random, channel, &ENCODE_ORDER, faulty_encode);
+        add_every_answer(plan, random, channel, &WRITE_ORDER, faulty_write);
     }
 }
 
@@ -48,7 +49,7 @@ fn add_frame_commands(plan: &mut Plan, random: &mut Random, faults: &[Refusal]) 
     commands.into_iter().for_each(|command| plan.add_faulty(command, faults));
 }
 
-/// Every answer of an entry whose frames are read like those that arrive in the slot: the bench program, an encoding.
+/// Every answer of an entry that has frames, read like those that arrive in the slot or written.
 fn add_every_answer(plan: &mut Plan, random: &mut Random, channel: Channel, order: &[Refusal], faulty: Faulty) {
     let scene = Scene::fair(random, channel, Kind::Static);
     let history = [Happening::any(random, &scene, Sort::Missing)];

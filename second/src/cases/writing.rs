@@ -2,13 +2,14 @@
 
 use crate::channel::Channel;
 use crate::faults::{fair_write, faulty_write, selections};
-use crate::frame::{HIGHEST_CYCLE, HIGHEST_ID, LARGEST_FRAME, LARGEST_PAYLOAD, SMALLEST_FRAME};
+use crate::frame::{Indicators, HIGHEST_CYCLE, HIGHEST_ID, LARGEST_FRAME, LARGEST_PAYLOAD};
+use crate::payloads;
 use crate::plan::{Expected, Plan};
 use crate::random::Random;
 use crate::refusal::{Refusal, WRITE_ORDER};
 use crate::script::{Command, Write, LIMIT};
 
-const ROUNDS_OF_SELECTIONS: usize = 5;
+const ROUNDS_OF_SELECTIONS: usize = 3;
 
 pub fn add(plan: &mut Plan, random: &mut Random) {
     add_channels(plan, random);
@@ -25,12 +26,6 @@ pub fn add(plan: &mut Plan, random: &mut Random) {
     }
 }
 
-/// A taken write with a payload of this size and a room that just holds the frame.
-fn sized_write(random: &mut Random, channel: Channel, size: usize) -> Write {
-    let fair = fair_write(random, channel, 0);
-    Write { payload: random.bytes(size), room: SMALLEST_FRAME + size, ..fair }
-}
-
 pub(super) fn accepted_if(right: bool, refusal: Refusal) -> Expected {
     if right {
         Expected::Accepted
@@ -41,14 +36,14 @@ pub(super) fn accepted_if(right: bool, refusal: Refusal) -> Expected {
 
 fn add_channels(plan: &mut Plan, random: &mut Random) {
     for channel in 2..=255 {
-        let write = Write { channel, ..sized_write(random, Channel::A, 2) };
+        let write = Write { channel, ..fair_write(random, Channel::A, 2) };
         plan.add(Command::Write(write), Expected::Refused(Refusal::Channel));
     }
 }
 
 fn add_payload_sizes(plan: &mut Plan, random: &mut Random, channel: Channel) {
     for size in (0..=LARGEST_PAYLOAD).step_by(2) {
-        let exact = sized_write(random, channel, size);
+        let exact = fair_write(random, channel, size);
         let spare = if size % 4 == 0 { 0 } else { random.between(1, 20) };
         let write = Write { room: exact.room + spare, ..exact };
         plan.add(Command::Write(write), Expected::Accepted);
@@ -61,10 +56,10 @@ fn add_wrong_payload_sizes(plan: &mut Plan, random: &mut Random, channel: Channe
     for size in odd.chain(too_many) {
         // A room of any size leaves refusal 10 the first.
         let room = random.pick(&[0, 8, 30]);
-        let write = Write { room, ..sized_write(random, channel, size) };
+        let write = Write { room, ..fair_write(random, channel, size) };
         plan.add(Command::Write(write), Expected::Refused(Refusal::PayloadToWrite));
     }
-    let write = Write { room: LIMIT, ..sized_write(random, channel, LARGEST_PAYLOAD + 2) };
+    let write = Write { room: LIMIT, ..fair_write(random, channel, LARGEST_PAYLOAD + 2) };
     plan.add(Command::Write(write), Expected::Refused(Refusal::PayloadToWrite));
 }
 
@@ -72,7 +67,7 @@ fn add_ids(plan: &mut Plan, random: &mut Random, channel: Channel) {
     let powers = (0..16).map(|place| 1 << place);
     let ends = [0, 3, HIGHEST_ID - 1, HIGHEST_ID, HIGHEST_ID + 2, 4095, 4097, 32767, u16::MAX - 1, u16::MAX];
     for id in powers.chain(ends) {
-        let write = Write { id, ..sized_write(random, channel, 4) };
+        let write = Write { id, ..fair_write(random, channel, 4) };
         let right = (1..=HIGHEST_ID).contains(&id);
         plan.add(Command::Write(write), accepted_if(right, Refusal::IdGiven));
     }
@@ -80,20 +75,22 @@ fn add_ids(plan: &mut Plan, random: &mut Random, channel: Channel) {
 
 fn add_cycles(plan: &mut Plan, random: &mut Random, channel: Channel) {
     for cycle in 0..=255 {
-        let write = Write { cycle, ..sized_write(random, channel, 0) };
+        let write = Write { cycle, ..fair_write(random, channel, 0) };
         plan.add(Command::Write(write), accepted_if(cycle <= HIGHEST_CYCLE, Refusal::Cycle));
     }
 }
 
-/// All 256 flag bytes; the three unnamed bits change nothing.
+/// All 256 flag bytes, null frames having zeros; the three unnamed bits change nothing.
 fn add_flags(plan: &mut Plan, random: &mut Random, channel: Channel) {
     for flags in 0..=255 {
-        let write = Write { flags, ..sized_write(random, channel, 2) };
+        let payload = payloads::writable(random, Indicators::from_flags(flags), 2);
+        let write = Write { flags, payload, ..fair_write(random, channel, 2) };
         plan.add(Command::Write(write), by_flags(flags));
     }
 }
 
-fn by_flags(flags: u8) -> Expected {
+/// What the flags decide, whatever the payload.
+pub(super) fn by_flags(flags: u8) -> Expected {
     const RESERVED: u8 = 1;
     const SYNC: u8 = 8;
     const STARTUP: u8 = 16;
@@ -113,7 +110,7 @@ fn add_rooms(plan: &mut Plan, random: &mut Random, channel: Channel) {
 
 fn add_rooms_for(plan: &mut Plan, random: &mut Random, channel: Channel, size: usize, rooms: &[usize]) {
     for room in rooms {
-        let exact = sized_write(random, channel, size);
+        let exact = fair_write(random, channel, size);
         let expected = accepted_if(*room >= exact.room, Refusal::Output);
         plan.add(Command::Write(Write { room: *room, ..exact }), expected);
     }

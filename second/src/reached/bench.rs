@@ -17,6 +17,7 @@ impl Reached {
         }
         if let Some((channel, frame)) = input.split_first() {
             self.add_listed('P', *channel, frame, answer.number());
+            self.add_null_frame('P', *channel, frame, answer.number());
         }
         if input.len() > LONGEST_INPUT && frame::read(Channel::A.number(), &input[1..LONGEST_INPUT]).is_ok() {
             self.add(format!("a good frame at the front of {} bytes on {}", input.len(), input[0]));

@@ -2,7 +2,7 @@
 
 use super::choices::any;
 use super::Reached;
-use crate::answer::Answer;
+use crate::answer::{Answer, UNTOUCHED};
 use crate::cases::{CHECK_VALUES, HEADER_CHECKSUMS, HEADER_REMAINDERS, REMAINDER};
 use crate::channel::Channel;
 use crate::draft::FOREIGN_CHANNELS;
@@ -21,6 +21,7 @@ impl Reached {
 
     pub(super) fn add_read(&mut self, given: &OnChannel, answer: &Answer) {
         self.add_listed('R', given.channel, &given.bytes, answer.number());
+        self.add_null_frame('R', given.channel, &given.bytes, answer.number());
         if self.written.as_ref() == Some(&given.bytes) {
             self.add(format!("written, then read: {}", answer.number()));
         }
@@ -33,17 +34,26 @@ impl Reached {
     }
 
     pub(super) fn add_write(&mut self, write: &Write, answer: &Answer) {
-        if self.read.as_ref().is_some_and(|read| Write::again(read).as_ref() == Some(write)) {
+        self.add_null_write(write, answer.number());
+        if let Some(read) = self.read.clone().filter(|read| Write::again(read).as_ref() == Some(write)) {
             self.add(format!("read, then written: {}", answer.number()));
+            self.add_rewritten(&read, answer);
         }
-        if let Answer::Write(Ok(size), output) = answer {
-            self.add_listed('W', write.channel, &output[..*size], 0);
-            self.written = Some(output[..*size].to_vec());
+        let Answer::Write(found, output) = answer else {
+            return;
+        };
+        let (frame, behind) = output.split_at(found.unwrap_or(0));
+        if !reads_as(write, frame) || behind.iter().any(|byte| *byte != UNTOUCHED) {
+            self.impossible.push(format!("{write:?} gave {}", answer.line()));
+        }
+        if found.is_ok() {
+            self.add_listed('W', write.channel, frame, 0);
+            self.written = Some(frame.to_vec());
         }
     }
 
     pub(super) fn add_listed(&mut self, letter: char, given: u8, bytes: &[u8], number: u8) {
-        for (place, frame) in listed_frames::ALL.iter().enumerate() {
+        for (place, frame) in listed_frames::ALL.iter().chain(&listed_frames::NULL_FRAMES).enumerate() {
             for channel in Channel::BOTH.into_iter().filter(|channel| frame.bytes(*channel) == bytes) {
                 self.add(format!("{letter} of listed frame {place} for {channel:?} on {given}: {number}"));
             }
@@ -51,13 +61,24 @@ impl Reached {
     }
 }
 
+/// Whether a frame reads as all that was given to be written; nothing is there after a refusal.
+fn reads_as(write: &Write, frame: &[u8]) -> bool {
+    let read = OnChannel { channel: write.channel, bytes: frame.to_vec() };
+    let named = write.given().indicators.flags();
+    frame.is_empty() || Write::again(&read) == Some(Write { flags: named, room: frame.len(), ..write.clone() })
+}
+
 pub(super) fn required() -> Vec<String> {
     let foreign = any(FOREIGN_CHANNELS);
-    let mut all: Vec<String> = ["written, then read: <0|8>", "read, then written: <0|12>"].map(str::to_string).into();
+    let mut all: Vec<String> =
+        ["written, then read: <0|8>", "read, then written: <0|12|26>"].map(str::to_string).into();
     for channel in Channel::BOTH {
         let (own, other) = (channel.number(), channel.other().number());
         let listed = format!("of listed frame <0..2> for {channel:?}");
         all.push(format!("<F|R|W|P|E> {listed} on {own}: 0"));
+        // Behind those the null frames, the first of which is not written.
+        all.push(format!("<R|P> of listed frame <3..5> for {channel:?} on {own}: 0"));
+        all.push(format!("W of listed frame <4..5> for {channel:?} on {own}: 0"));
         all.push(format!("<R|P|E> {listed} on {other}: 8"));
         all.push(format!("<P|E> {listed} on <{foreign}>: 1"));
         let known = [0, REMAINDER, channel.start_value(), CHECK_VALUES[usize::from(own)]];

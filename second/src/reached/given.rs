@@ -81,7 +81,7 @@ fn of_fields(fields: &Fields) -> [(&'static str, i64); 3] {
     [("id", fields.id.into()), ("words", fields.words.into()), ("cycle", fields.cycle.into())]
 }
 
-fn of_write(write: &Write) -> [(&'static str, i64); 8] {
+pub(super) fn of_write(write: &Write) -> [(&'static str, i64); 8] {
     let [payload, room] = [write.payload.len(), write.room].map(|size| size as i64);
     [
         ("channel", write.channel.into()),
@@ -151,11 +151,12 @@ pub(super) fn required() -> Vec<String> {
         "Y given runs 0: <0|23|36>".to_string(),
         format!("R given id <1..{id}>: 0"),
         format!("<R|W|O> given cycle <0..{cycle}>: 0"),
-        "W given unnamed flags <0..7>: 0".to_string(),
+        "W given unnamed flags <0..7>: <0|26>".to_string(),
         format!("W given payload <1|{odd}|{large}|{larger}|{LIMIT}>: 10"),
         "<W|E> given spare room <0|1>: 0".to_string(),
         "W given spare room -1: 13".to_string(),
         "W given room 0: 13".to_string(),
+        "W given spare room <-1|0|1>: 26".to_string(),
         format!("P given id <1|10|100|101|110|1000|1001|1010|2000|{id}>: 0"),
         format!("P given cycle <0|1|10|20|{cycle}>: 0"),
         format!("P given words <0|1|10|20|100|101|110|{words}>: 0"),

@@ -61,6 +61,9 @@ impl Reached {
             *self.answers.entry(('y', call.number())).or_default() += 1;
             self.add(format!("told {} on {channel}", call.number()));
         }
+        for call in calls {
+            self.add_null_frame('Y', channel, &call.bytes, call.number());
+        }
         let sizes: Vec<usize> = calls.iter().map(|call| call.bytes.len()).filter(|size| *size > 0).collect();
         self.add(format!("piece with {} frames", sizes.len()));
         for size in sizes {

@@ -90,6 +90,7 @@ impl Reached {
         if fields.id == status.slot && fields.cycle == status.cycle {
             self.add_look(status, fields);
         }
+        self.add_null_arrival(status, bytes, &missed);
         self.add_frame(*fields, bytes, first.map_or(Tested::Good, Tested::Missed));
         first.map_or(Sort::Good, |_| Sort::Missing)
     }

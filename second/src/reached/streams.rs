@@ -19,6 +19,7 @@ impl Reached {
             self.impossible.push(format!("{encode:?} gave {}", answer.line()));
         }
         self.add_listed('E', encode.channel, &encode.frame, number);
+        self.add_null_frame('E', encode.channel, &encode.frame, number);
         self.add(format!("start {start} in {}: {number}", room_of(encode)));
         for (place, stream) in listed_streams::all().enumerate().filter(|(_, stream)| is_of(stream, encode)) {
             let spare = encode.room as i64 - stream.packed().len() as i64;

@@ -1,7 +1,5 @@
 -- `rewritten`: what was read and written again is what it was, and otherwise nothing is touched.
 use mathlib.Core.Path.{_≡_, sym, ap, _∙_, subst}
-use Prim.Native.Nat.{ℕ}
-use lib.Dec.{eqb}
 use denote.Ref.{now}
 use Rattle.header.specs.declared.Fields.{Fields}
 use Rattle.frame.specs.Read.{told}
@@ -16,8 +14,10 @@ returns : tie.Need-returns
 returns c =
     let s : tie.Start = search needs in
     let r : tie.After-read = search needs in
-    not-rewritten (s .args .channel) (now (s .args .bytes)) (now (s .args .output)) (r .read .result) (r .read .ensures)
-    (λ e. c .if1 .taken (c .before .number .ensures ∙ e))
+    let bytes = now (s .args .bytes) in
+    let output = now (s .args .output) in
+    subst (Rewritten (s .args .channel) bytes output output) (sym (c .before .number .ensures))
+    (not-rewritten (s .args .channel) bytes output (r .read .result) (r .read .ensures) (λ e. c .if1 .taken (c .before .number .ensures ∙ e)))
 
 returns-2 : tie.Need-returns-2
 returns-2 c =
@@ -36,7 +36,7 @@ returns-2 c =
     let part = now (p .payload .result) in
     let fields = f .«fields-of» .ensures ∙ ap fieldsOf (h .header .ensures) in
     let accepted : told (r .read .result) .number ≡ 0 = sym (n .number .ensures) ∙ passed .if1 .left in
-    subst (λ (n : ℕ). Rewritten (s .args .channel) bytes output after (eqb n 0)) (sym (c .number2 .ensures))
+    subst (Rewritten (s .args .channel) bytes output after) (sym (c .number2 .ensures))
     (was-rewritten (s .args .channel) bytes output after part (r .read .result) (w .write .result) (λ i. k .shared-slice-known .given i .fits) (r .read .ensures)
     accepted (p .payload .ensures .0)
     (subst (λ (f : Fields). WriteSays (s .args .channel) f part output after (w .write .result)) fields (w .write .ensures)))

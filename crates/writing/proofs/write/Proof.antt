@@ -14,7 +14,7 @@ use Rattle.base_types.specs.Channel.{notAChannel, channelOf}
 use Rattle.base_types.proofs.ChannelLaws.{named-is, named-not}
 use Rattle.lent_bytes.specs.Over.{over}
 use Rattle.writing.specs.declared.Writing.{Writing}
-use Rattle.writing.specs.declared.Writing.the-variants.{NotAChannel, NotAnId, BadPayload, CycleTooHigh, StartupWithoutSync, ReservedSet, OutputTooShort}
+use Rattle.writing.specs.declared.Writing.the-variants.{NotAChannel, NotAnId, BadPayload, CycleTooHigh, StartupWithoutSync, ReservedSet, NullFrameNotEmpty, OutputTooShort}
 use Rattle.writing.specs.Refusals.{badPayload}
 use Rattle.writing.specs.Write.{frameBytes, told, refused, refusals, refusal, WriteSays}
 use Rattle.writing.proofs.WriteLaws.{write-refused, write-accepted, payload-at-most}
@@ -58,10 +58,15 @@ past7 c = past11 (search needs) then sym (c .before .startup-without-sync .ensur
 past12 : (c : tie.Else5) → Passed 6 (entry (search needs))
 past12 c = past7 (search needs) then c .if5 .left
 
-past13 : (c : tie.Else6) → Passed 7 (entry (search needs))
+past26 : (c : tie.Else6) → Passed 7 (entry (search needs))
+past26 c =
+    let n : tie.After-null-frame-not-empty = search needs in
+    past12 (search needs) then sym (n .null-frame-not-empty .ensures) ∙ c .if6 .left
+
+past13 : (c : tie.Else7) → Passed 8 (entry (search needs))
 past13 c =
     let a = entry (search needs) .args in
-    past12 (search needs) then le-ltb (length (now (a .output))) (8 + length (now (a .payload))) (omega arith)
+    past26 (search needs) then le-ltb (length (now (a .output))) (8 + length (now (a .payload))) (omega arith)
 
 -- ---- each return
 
@@ -97,15 +102,21 @@ returns-6 c = refuse (entry (search needs)) 11 ReservedSet refl (first-at (past7
 
 returns-7 : tie.Need-returns-7
 returns-7 c =
+    let n : tie.After-null-frame-not-empty = search needs in
+    refuse (entry (search needs)) 25 NullFrameNotEmpty refl
+    (first-at (past12 (search needs)) (sym (n .null-frame-not-empty .ensures) ∙ c .if6 .taken))
+
+returns-8 : tie.Need-returns-8
+returns-8 c =
     let s = entry (search needs) in
     refuse s 12 OutputTooShort refl
-    (first-at (past12 (search needs)) (lt-ltb (length (now (s .args .output))) (8 + length (now (s .args .payload))) (omega arith)))
+    (first-at (past26 (search needs)) (lt-ltb (length (now (s .args .output))) (8 + length (now (s .args .payload))) (omega arith)))
 
 lay-requires : tie.Need-lay-requires
 lay-requires c κs = (payload-at-most (now (entry (search needs) .args .payload)) (payload-good (search needs)), omega arith)
 
-returns-8 : tie.Need-returns-8
-returns-8 c =
+returns-9 : tie.Need-returns-9
+returns-9 c =
     let laid : tie.After-lay = search needs in
     let k : tie.After-known-told = search needs in
     let a = entry k .args in
@@ -124,7 +135,8 @@ write-spec =
     (λ c κs. search needs) returns-3
     (λ c κs. search needs) returns-4
     (λ c κs. search needs) returns-5
-    (λ c. search needs) returns-6
+    (λ c κs. search needs) (λ c. search needs) returns-6
     returns-7
+    returns-8
     lay-requires
-    (λ c. search needs) returns-8)
+    (λ c. search needs) returns-9)

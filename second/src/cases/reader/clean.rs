@@ -3,7 +3,7 @@
 use super::{line_of, listed, open, open_and_hear};
 use crate::channel::Channel;
 use crate::draft::Draft;
-use crate::listed_frames::{SHORT, STARTUP};
+use crate::listed_frames::{NOT_ZEROS, SHORT, STARTUP};
 use crate::plan::{Expected, Plan};
 use crate::random::Random;
 use crate::samples::{self, IDLE_BITS};
@@ -26,6 +26,8 @@ pub fn add(plan: &mut Plan, random: &mut Random) {
         }
         add_frames(plan, channel, &[(12, 3, listed(&STARTUP, channel))]);
         add_frames(plan, channel, &[(20, 15, listed(&SHORT, channel))]);
+        // 02 C-16 is about writing: what the wire brings is a frame as ever.
+        add_frames(plan, channel, &[(IDLE_BITS, 3, listed(&NOT_ZEROS, channel))]);
         add_other_channel(plan, channel);
         add_high_samples(plan, channel);
         add_runs(plan, random, channel);
