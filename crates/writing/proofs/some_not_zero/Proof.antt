@@ -29,17 +29,17 @@ turn : (bytes : List ℕ) (i : ℕ) → i < length bytes → someNotZero (drop i
 unfolding someNotZero
 turn bytes i h = rw (drop-cons bytes i 0 h, add-one i)
 
-returns : tie.Need-returns Inv-loop μ-loop
-returns c =
-    let l = c .before .before .before .loop in
-    let bytes = now (c .before .before .before .before .args .bytes) in
-    sym (l .inv ∙ turn bytes (l .i) (omega arith) ∙ rw (ne-eqb (getD bytes (l .i) 0) 0 (c .if1 .taken)))
-
 loop-again : tie.Need-loop-again Inv-loop μ-loop
 loop-again c =
     let l = c .before .before .before .loop in
     let bytes = now (c .before .before .before .before .args .bytes) in
     l .inv ∙ turn bytes (l .i) (omega arith) ∙ rw (eq-eqb (getD bytes (l .i) 0) 0 (c .if1 .left))
+
+returns : tie.Need-returns Inv-loop μ-loop
+returns c =
+    let l = c .before .before .before .loop in
+    let bytes = now (c .before .before .before .before .args .bytes) in
+    sym (l .inv ∙ turn bytes (l .i) (omega arith) ∙ rw (ne-eqb (getD bytes (l .i) 0) 0 (c .if1 .taken)))
 
 returns-2 : tie.Need-returns-2 Inv-loop μ-loop
 unfolding someNotZero
