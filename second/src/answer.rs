@@ -129,7 +129,7 @@ impl Answer {
             Answer::CycleOpened(_) => format!("open {number}"),
             Answer::Measured(answer) => format!("measure {number} {}", answer.unwrap_or(0)),
             Answer::Closed(Ok(closing)) => format!("close 0 {}", closing.numbers()),
-            Answer::Closed(Err(_)) => format!("close {number} 0 0 0 0 0 0 0"),
+            Answer::Closed(Err(_)) => format!("close {number} 0 0 0 0 0 0 0 0"),
             Answer::ClockPut => "clock put".to_string(),
             Answer::Shown(clock, status) => format!("{}\n{}", clock.line(), status.line()),
             Answer::ReaderOpened(_) => format!("reader {number}"),

@@ -6,7 +6,7 @@ use crate::frame::{Fields, HIGHEST_CYCLE};
 use crate::refusal::{holding, refuse_first, Refusal};
 use crate::settings::{Settings, DECODING_CORRECTION, DELAY_A, DELAY_B, RATE_LIMIT, SYNC_ID_LIMIT};
 use crate::slot::SlotStatus;
-use crate::sync_list::SyncList;
+use crate::sync_list::{Measurement, SyncList};
 
 /// 02 C-12: the highest observed time and action point, in microticks. The counter may run on from an even cycle through
 /// the odd one behind it; no cycle length is taken off, as a deviation is a difference.
@@ -65,7 +65,8 @@ impl ClockState {
         cycle % 2 == 1 && self.last_closed == Some(cycle - 1)
     }
 
-    /// The state after measuring, and the deviation by its own settings, whatever those of the status.
+    /// The state after measuring, and the deviation by its own settings, whatever those of the status. It is listed with
+    /// their mark (02 C-17).
     pub fn measured(&self, status: &SlotStatus, times: Times) -> Result<(ClockState, i32), Refusal> {
         refuse_first(&self.measuring_causes(status, times))?;
         let frame = status.kept.ok_or(Refusal::NoSyncFrame)?;
@@ -73,7 +74,8 @@ impl ClockState {
         let deviation = i32::try_from(deviation).expect("times and settings in range leave a small number");
         let mut after = self.clone();
         let list = &mut after.lists[list_of(frame.cycle)];
-        *list = list.with(frame.id, status.channel, deviation);
+        let measurement = Measurement { deviation, mark: self.settings.mark };
+        *list = list.with(frame.id, status.channel, measurement);
         Ok((after, deviation))
     }
 
@@ -117,11 +119,12 @@ impl ClockState {
         ])
     }
 
-    /// 01 "Refusal numbers": what makes a clock state sound.
+    /// 01 "Refusal numbers" and 02 C-17: what makes a clock state sound.
     pub fn is_sound(&self) -> bool {
+        let (limit, mark) = (self.settings.field(SYNC_ID_LIMIT), self.settings.mark);
         self.settings.first_out_of_range().is_none()
             && self.open.iter().chain(&self.last_closed).all(|cycle| *cycle <= HIGHEST_CYCLE)
-            && self.lists.iter().all(|list| list.is_sound(self.settings.field(SYNC_ID_LIMIT)))
+            && self.lists.iter().all(|list| list.is_sound(limit, mark))
             && self.stored_rate.unsigned_abs() <= self.settings.field(RATE_LIMIT)
     }
 }
@@ -150,6 +153,7 @@ mod tests {
     use super::*;
     use crate::clock_scene::{status_with, wide_settings};
     use crate::settings::{HIGHEST_CORRECTION, HIGHEST_DELAY};
+    use crate::sheet_mark::SheetMark;
     use crate::sync_list::DEVIATIONS;
 
     /// 02, C-12: lowest -2,560,510, highest 2,560,000.
@@ -165,5 +169,32 @@ mod tests {
             assert_eq!((deviation, after.is_sound()), (end, true));
         }
         assert_eq!(DEVIATIONS, -2_560_510..=2_560_000);
+    }
+
+    /// 02 C-17: under marks 5 and 6, with a status under mark 9.
+    #[test]
+    fn marks_by_hand() {
+        let sheet = |mark| wide_settings(false).with_mark(SheetMark(mark));
+        let sync = |cycle| status_with(sheet(9), Channel::B, 7, cycle, 0b01000).status();
+        let times = Times { observed: 12, action_point: 2 };
+        let fresh = load(sheet(5)).expect("the sheet is in range");
+        let (even, _) = fresh.opened(4).and_then(|open| open.measured(&sync(4), times)).expect("all is in range");
+        assert_eq!(
+            even.lists[0].sightings[0].measurements[&Channel::B],
+            Measurement { deviation: 10, mark: SheetMark(5) }
+        );
+        let (closed, report) = even.closed(Controls::NONE).expect("a cycle is open");
+        assert_eq!(report.numbers(), "10 0 0 0 0 0 1 5");
+        let (odd, _) = closed.opened(5).and_then(|open| open.measured(&sync(5), times)).expect("all is in range");
+        assert_eq!(odd.closed(Controls::NONE).map(|(_, report)| report.numbers()), Ok("10 0 0 0 0 0 1 5".to_string()));
+        // Both lists are looked at, and nothing comes over into another load.
+        for list in [0, 1] {
+            let mut wrong = odd.clone();
+            wrong.lists[list] =
+                wrong.lists[list].with(7, Channel::B, Measurement { deviation: 10, mark: SheetMark(6) });
+            assert_eq!(wrong.closed(Controls::NONE), Err(Refusal::NotSound));
+        }
+        assert_eq!(ClockState { settings: sheet(6), ..odd }.closed(Controls::NONE), Err(Refusal::NotSound));
+        assert_eq!(load(sheet(5)), Ok(fresh));
     }
 }

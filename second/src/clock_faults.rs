@@ -77,6 +77,7 @@ pub fn faulty_measure(random: &mut Random, faults: &[Refusal]) -> Faulty {
         let limit = clock.settings.field(SYNC_ID_LIMIT) as u8;
         clock.lists.iter_mut().for_each(|list| list.count = limit);
     }
+    clock = clock.marked();
     let cycle = if has(Refusal::OtherCycle) { other_cycle(random, clock.cycle) } else { clock.cycle };
     let status = match has(Refusal::NoSyncFrame) {
         true => unfit_status(random, channel, id, cycle, faults),
@@ -92,7 +93,7 @@ fn with_room(clock: ClockNumbers) -> ClockNumbers {
     let mut with_room = clock;
     let limit = clock.settings.field(SYNC_ID_LIMIT) as u8;
     with_room.lists.iter_mut().for_each(|list| list.count = list.count.clamp(1, limit - 1));
-    with_room
+    with_room.marked()
 }
 
 /// An ID that a sync frame can have and that stands in no row.
@@ -169,7 +170,7 @@ pub fn unsound(random: &mut Random, sound: ClockNumbers) -> ClockNumbers {
     let place = random.below(2);
     let limit = clock.settings.field(SYNC_ID_LIMIT) as u8;
     let rate_limit = clock.settings.field(RATE_LIMIT) as i32;
-    match random.below(9) {
+    match random.below(12) {
         0 => {
             let field = random.between(1, FIELDS);
             clock.settings = clock.settings.with_field(field, wrong_value(random, field));
@@ -178,8 +179,28 @@ pub fn unsound(random: &mut Random, sound: ClockNumbers) -> ClockNumbers {
         2 => (clock.closed, clock.last) = (true, wrong_cycle(random)),
         3 => clock.rate = random.pick(&[rate_limit + 1, -rate_limit - 1, i32::MIN, i32::MAX]),
         4 => clock.lists[place].count = random.pick(&[limit + 1, PLACES as u8 + 1, 128, 255]),
-        _ => spoil_row(random, &mut clock.lists[place]),
+        5..=8 => spoil_row(random, &mut clock.lists[place]),
+        _ => return wrongly_marked(random, sound),
     }
+    // Rows that are listed now have the right mark.
+    clock.marked()
+}
+
+/// 02 C-17: one measurement with another mark than the settings', or all of them.
+pub fn wrongly_marked(random: &mut Random, sound: ClockNumbers) -> ClockNumbers {
+    let mut clock = sound;
+    let place = random.below(2);
+    clock.lists[place].count = clock.lists[place].count.max(1);
+    let mut clock = clock.marked();
+    if random.one_in(3) {
+        clock.settings.mark = clock.settings.mark.other(random);
+        return clock;
+    }
+    let at = random.below(clock.lists[place].count.into());
+    let row = &mut clock.lists[place].rows[at];
+    let seen: Vec<Channel> = Channel::BOTH.into_iter().filter(|channel| row.is_seen_on(*channel)).collect();
+    let mark = &mut row.pair[usize::from(random.pick(&seen).number())];
+    *mark = mark.other(random);
     clock
 }
 

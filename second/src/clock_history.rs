@@ -9,11 +9,12 @@ use crate::plan::{Expected, Plan};
 use crate::refusal::Refusal;
 use crate::script::Command;
 use crate::settings::Settings;
+use crate::sheet_mark::SheetMark;
 use crate::status_numbers::StatusNumbers;
 
 pub const NO_TIME: Times = Times { observed: 0, action_point: 0 };
 
-/// What closing must report.
+/// What closing must report, but for the mark, which is that of the settings.
 #[derive(Clone, Copy, Debug, Default)]
 pub struct Demand {
     pub offset: i64,
@@ -26,10 +27,10 @@ pub struct Demand {
 }
 
 impl Demand {
-    fn line(&self) -> String {
+    fn line(&self, mark: SheetMark) -> String {
         let flags = [self.offset_missing, self.rate_missing, self.offset_limited, self.rate_limited];
         let flags = flags.map(|flag| u8::from(flag).to_string()).join(" ");
-        format!("close 0 {} {} {flags} {}", self.offset, self.rate, self.ids)
+        format!("close 0 {} {} {flags} {} {mark}", self.offset, self.rate, self.ids)
     }
 }
 
@@ -43,9 +44,9 @@ pub fn open(plan: &mut Plan, cycle: u8) {
     plan.add(Command::OpenCycle(cycle), Expected::line("open 0"));
 }
 
-/// A closing without external terms, and its line.
-pub fn close(plan: &mut Plan, line: &str) {
-    plan.add(Command::CloseCycle(Controls::NONE), Expected::line(line));
+/// A closing without external terms, and its line up to the mark.
+pub fn close(plan: &mut Plan, mark: SheetMark, line: &str) {
+    plan.add(Command::CloseCycle(Controls::NONE), Expected::Line(format!("{line} {mark}")));
 }
 
 pub fn put(plan: &mut Plan, numbers: &ClockNumbers) {
@@ -62,7 +63,7 @@ pub fn refuse(plan: &mut Plan, held: &ClockNumbers, command: Command, refusal: R
     let line = match command {
         Command::OpenCycle(_) => format!("open {number}"),
         Command::Measure(_) => format!("measure {number} 0"),
-        _ => format!("close {number} 0 0 0 0 0 0 0"),
+        _ => format!("close {number} 0 0 0 0 0 0 0 0"),
     };
     plan.add(command, Expected::Line(line));
     show(plan, held);
@@ -90,6 +91,6 @@ pub fn refuse_measure(plan: &mut Plan, held: &ClockNumbers, status: &StatusNumbe
 /// Puts a state, closes its cycle and shows what is left with the rate stored.
 pub fn close_put(plan: &mut Plan, before: &ClockNumbers, controls: Controls, demand: &Demand, stored: i64) {
     put(plan, before);
-    plan.add(Command::CloseCycle(controls), Expected::Line(demand.line()));
+    plan.add(Command::CloseCycle(controls), Expected::Line(demand.line(before.settings.mark)));
     show(plan, &closed(before, stored as i32));
 }

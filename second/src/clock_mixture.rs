@@ -2,9 +2,11 @@
 
 use crate::channel::Channel;
 use crate::clock::Times;
-use crate::clock_faults::{fair_controls, fair_times, unsound, wrong_controls, wrong_times, LONGEST_CYCLE};
+use crate::clock_faults::{
+    fair_controls, fair_times, unsound, wrong_controls, wrong_times, wrongly_marked, LONGEST_CYCLE,
+};
 use crate::clock_numbers::ClockNumbers;
-use crate::clock_scene::{doubled, fair_clock, settings_with_static, some_ids, sync_status, HIGHEST_SYNC_ID};
+use crate::clock_scene::{doubled, fair_clock, some_ids, sync_status, HIGHEST_SYNC_ID};
 use crate::draft::fair_cycle;
 use crate::faults::{wrong_cycle, wrong_value};
 use crate::frame::HIGHEST_CYCLE;
@@ -12,6 +14,7 @@ use crate::random::Random;
 use crate::scene::{fair_settings, Kind, Scene};
 use crate::script::Command;
 use crate::settings::{Settings, FIELDS, RATE_LIMIT, STATIC_WORDS};
+use crate::sheet_mark::SheetMark;
 use crate::sync_list::PLACES;
 
 const MOST_CYCLES: usize = 5;
@@ -21,13 +24,24 @@ struct Cluster {
     ids: Vec<u16>,
     /// How much later they come in an odd cycle than in the even one.
     drift: i32,
+    /// 02 C-17: the mark of every other sheet.
+    mark: SheetMark,
     /// What the counter shows where an odd cycle begins: 0, or with one that runs on (02 C-12) the length of the even one.
     odd_begins: i32,
 }
 
+impl Cluster {
+    fn mark_some(&self, random: &mut Random, settings: Settings) -> Settings {
+        if random.coin() {
+            return settings.with_mark(self.mark);
+        }
+        settings
+    }
+}
+
 pub fn episode(random: &mut Random) -> Vec<Command> {
     let cluster = any_cluster(random);
-    let mut commands = vec![start(random), Command::Show];
+    let mut commands = vec![start(random, &cluster), Command::Show];
     let mut cycle = fair_cycle(random) & !1;
     for _ in 0..random.between(1, MOST_CYCLES) {
         commands.extend(one_cycle(random, &cluster, cycle));
@@ -40,7 +54,12 @@ fn any_cluster(random: &mut Random) -> Cluster {
     let count = if random.one_in(4) { random.between(5, PLACES + 1) } else { random.between(1, 4) };
     let mut ids = some_ids(random, count);
     ids.iter_mut().for_each(|id| *id = (*id - 1) % HIGHEST_SYNC_ID + 1);
-    Cluster { ids, drift: random.between(0, 60) as i32 - 30, odd_begins: odd_begins(random) }
+    Cluster {
+        ids,
+        drift: random.between(0, 60) as i32 - 30,
+        mark: SheetMark::any(random),
+        odd_begins: odd_begins(random),
+    }
 }
 
 fn odd_begins(random: &mut Random) -> i32 {
@@ -52,25 +71,27 @@ fn odd_begins(random: &mut Random) -> i32 {
 }
 
 /// A load as a rule.
-fn start(random: &mut Random) -> Command {
-    match random.below(20) {
-        0..=13 => Command::Load(any_settings(random)),
+fn start(random: &mut Random, cluster: &Cluster) -> Command {
+    match random.below(21) {
+        0..=13 => Command::Load(any_settings(random, cluster)),
         14 => {
             let field = random.between(1, FIELDS);
-            Command::Load(any_settings(random).with_field(field, wrong_value(random, field)))
+            Command::Load(any_settings(random, cluster).with_field(field, wrong_value(random, field)))
         }
         15..=17 => Command::put_clock(&ClockNumbers { open: false, ..fair_clock(random) }),
         18 => Command::put_clock(&fair_clock(random)),
-        _ => {
+        wrong => {
             let sound = fair_clock(random);
-            Command::put_clock(&unsound(random, sound))
+            let spoilt = if wrong == 19 { unsound(random, sound) } else { wrongly_marked(random, sound) };
+            Command::put_clock(&spoilt)
         }
     }
 }
 
 /// Limits small enough to be met now and then.
-fn any_settings(random: &mut Random) -> Settings {
+fn any_settings(random: &mut Random, cluster: &Cluster) -> Settings {
     let fair = fair_settings(random);
+    let fair = cluster.mark_some(random, fair);
     if random.coin() {
         return fair.with_field(RATE_LIMIT, random.between(0, 60) as u32);
     }
@@ -95,20 +116,31 @@ fn one_cycle(random: &mut Random, cluster: &Cluster, cycle: u8) -> Vec<Command> 
                 commands.extend(one_frame(random, cluster, *id, channel, cycle));
             }
         }
+        if random.one_in(30) {
+            commands.extend(loaded_anew(random, cluster, cycle));
+        }
     }
-    commands.push(noise(random));
+    commands.push(noise(random, cluster));
     commands.push(Command::CloseCycle(if random.one_in(16) { wrong_controls(random) } else { fair_controls(random) }));
     commands.push(Command::Show);
     commands
 }
 
+/// 02 C-17: another sheet in the middle of a cycle, with the same mark or another one, and the same cycle or another one.
+fn loaded_anew(random: &mut Random, cluster: &Cluster, cycle: u8) -> Vec<Command> {
+    let cycle = if random.one_in(4) { fair_cycle(random) } else { cycle };
+    vec![Command::Load(any_settings(random, cluster)), Command::Show, Command::OpenCycle(cycle)]
+}
+
 /// A status that was put, or a slot opened in which the frame arrives, and its measurement.
 fn one_frame(random: &mut Random, cluster: &Cluster, id: u16, channel: Channel, cycle: u8) -> Vec<Command> {
     let cycle = if random.one_in(30) { fair_cycle(random) } else { cycle };
+    let mut put = sync_status(random, channel, id, cycle);
+    put.settings = cluster.mark_some(random, put.settings);
     let mut commands = match random.below(10) {
-        0 | 1 => vec![Command::PutStatus(sync_status(random, channel, id, cycle))],
-        2 => vec![Command::PutStatus(doubled(sync_status(random, channel, id, cycle)))],
-        _ => slot_of_frame(random, channel, id, cycle),
+        0 | 1 => vec![Command::PutStatus(put)],
+        2 => vec![Command::PutStatus(doubled(put))],
+        _ => slot_of_frame(random, channel, put.settings, id, cycle),
     };
     let times = match random.below(24) {
         0 => wrong_times(random),
@@ -122,8 +154,8 @@ fn one_frame(random: &mut Random, cluster: &Cluster, id: u16, channel: Channel, 
     commands
 }
 
-fn slot_of_frame(random: &mut Random, channel: Channel, id: u16, cycle: u8) -> Vec<Command> {
-    let settings = settings_with_static(random, id).with_field(STATIC_WORDS, random.below(3) as u32);
+fn slot_of_frame(random: &mut Random, channel: Channel, settings: Settings, id: u16, cycle: u8) -> Vec<Command> {
+    let settings = settings.with_field(STATIC_WORDS, random.below(3) as u32);
     let slot = Scene { settings, channel, slot: id, cycle, kind: Kind::Static };
     let mut good = slot.good(random);
     good.indicators.sync |= !random.one_in(20);
@@ -148,11 +180,11 @@ fn drifted(random: &mut Random, cluster: &Cluster, cycle: u8) -> Times {
 }
 
 /// What shouldn't come in the middle of a cycle, or a showing.
-fn noise(random: &mut Random) -> Command {
+fn noise(random: &mut Random, cluster: &Cluster) -> Command {
     match random.below(24) {
         0 => Command::OpenCycle(fair_cycle(random)),
         1 => Command::CloseCycle(fair_controls(random)),
-        2 => start(random),
+        2 => start(random, cluster),
         _ => Command::Show,
     }
 }
@@ -160,6 +192,8 @@ fn noise(random: &mut Random) -> Command {
 #[cfg(test)]
 mod tests {
     use super::*;
+    use crate::answer::{Answer, Held};
+    use crate::clock::list_of;
     use crate::replay::{Outcome, Replay};
 
     fn some_outcomes() -> Vec<Outcome> {
@@ -195,6 +229,31 @@ mod tests {
             _ => false,
         };
         assert!(some_outcomes().windows(2).filter(measured).count() > 50);
+    }
+
+    /// 02 C-17: sheets with the mark that is held and with others take the place of lists in the middle of a cycle, statuses
+    /// are measured under the clock's mark and under others, and of the states that are put few have wrong marks.
+    #[test]
+    fn marks_are_often_equal_and_often_not() {
+        let mut held = Held::default();
+        let (mut loads, mut measured, mut put) = ([0; 2], [0; 2], [0; 2]);
+        for outcome in some_outcomes() {
+            let Outcome::Answered(command, answer) = outcome else {
+                panic!("the script is whole");
+            };
+            let (of_clock, of_status) = (held.clock.settings.mark, held.status.settings.mark);
+            let listed = held.clock.open.is_some_and(|cycle| held.clock.lists[list_of(cycle)].count() > 0);
+            match &command {
+                Command::Load(sheet) if listed => loads[usize::from(sheet.mark == of_clock)] += 1,
+                Command::Measure(_) if answer.refusal().is_none() => measured[usize::from(of_status == of_clock)] += 1,
+                Command::PutClock(numbers) => put[usize::from(numbers.marked() == **numbers)] += 1,
+                _ => (),
+            }
+            Answer::to(&command, &mut held);
+        }
+        assert!(loads.iter().all(|count| *count > 20), "{loads:?}");
+        assert!(measured.iter().all(|count| *count > 400), "{measured:?}");
+        assert!(put[0] > 8 && put[1] > 3 * put[0], "{put:?}");
     }
 
     /// 02 C-12: both times in the second cycle of the counter, or one of them.

@@ -3,7 +3,8 @@
 use crate::channel::Channel;
 use crate::clock::ClockState;
 use crate::settings::Settings;
-use crate::sync_list::{Sighting, SyncList, PLACES};
+use crate::sheet_mark::SheetMark;
+use crate::sync_list::{Measurement, Sighting, SyncList, PLACES};
 
 const NAMED_SEEN: u8 = 0b11;
 
@@ -14,18 +15,36 @@ pub struct RowNumbers {
     pub seen: u8,
     /// Deviation on A and on B.
     pub deviations: [i32; 2],
+    /// 02 C-17: the mark of the measurement on A and of that on B.
+    pub pair: [SheetMark; 2],
 }
 
 impl RowNumbers {
     fn of(sighting: &Sighting) -> RowNumbers {
-        let bits = sighting.deviations.keys().map(|channel| 1 << channel.number());
-        let on = |channel| sighting.deviations.get(&channel).copied().unwrap_or(0);
-        RowNumbers { id: sighting.id, seen: bits.sum(), deviations: Channel::BOTH.map(on) }
+        let mut row = RowNumbers { id: sighting.id, ..RowNumbers::default() };
+        for (channel, measurement) in &sighting.measurements {
+            row.see(*channel, measurement.deviation, measurement.mark);
+        }
+        row
+    }
+
+    fn see(&mut self, channel: Channel, deviation: i32, mark: SheetMark) {
+        let place = usize::from(channel.number());
+        self.seen |= 1 << place;
+        self.deviations[place] = deviation;
+        self.pair[place] = mark;
     }
 
     fn sighting(&self) -> Sighting {
-        let seen = Channel::BOTH.into_iter().zip(self.deviations).filter(|(channel, _)| self.is_seen_on(*channel));
-        Sighting { id: self.id, deviations: seen.collect() }
+        let seen = Channel::BOTH.into_iter().filter_map(|channel| Some((channel, self.measurement(channel)?)));
+        Sighting { id: self.id, measurements: seen.collect() }
+    }
+
+    /// What the row says of a channel on which it is seen.
+    fn measurement(&self, channel: Channel) -> Option<Measurement> {
+        let place = usize::from(channel.number());
+        let measurement = Measurement { deviation: self.deviations[place], mark: self.pair[place] };
+        self.is_seen_on(channel).then_some(measurement)
     }
 
     pub fn is_seen_on(&self, channel: Channel) -> bool {
@@ -33,9 +52,17 @@ impl RowNumbers {
     }
 
     fn looked_at(&self) -> RowNumbers {
-        let on = |channel: Channel| self.is_seen_on(channel).then_some(self.deviations[usize::from(channel.number())]);
-        let deviations = Channel::BOTH.map(|channel| on(channel).unwrap_or(0));
-        RowNumbers { seen: self.seen & NAMED_SEEN, deviations, ..*self }
+        let mut row = RowNumbers { seen: self.seen & NAMED_SEEN, ..*self };
+        for place in [0, 1].into_iter().filter(|place| self.seen >> place & 1 == 0) {
+            (row.deviations[place], row.pair[place]) = (0, SheetMark::default());
+        }
+        row
+    }
+
+    /// The row with this mark wherever one is looked at.
+    fn under(self, mark: SheetMark) -> RowNumbers {
+        let on = |channel| if self.is_seen_on(channel) { mark } else { self.pair[usize::from(channel.number())] };
+        RowNumbers { pair: Channel::BOTH.map(on), ..self }
     }
 }
 
@@ -71,6 +98,16 @@ impl ListNumbers {
             *row = listed.looked_at();
         }
         ListNumbers { rows, ..*self }
+    }
+
+    fn under(mut self, mark: SheetMark) -> ListNumbers {
+        let listed = self.listed().len();
+        self.rows[..listed].iter_mut().for_each(|row| *row = row.under(mark));
+        self
+    }
+
+    fn pairs(&self) -> String {
+        self.listed().iter().flat_map(|row| row.pair).map(|mark| format!(" {mark}")).collect()
     }
 
     fn text(&self) -> String {
@@ -128,12 +165,19 @@ impl ClockNumbers {
         }
     }
 
+    /// The state with the mark of its settings wherever one is looked at, as 02 C-17 asks for.
+    pub fn marked(self) -> ClockNumbers {
+        ClockNumbers { lists: self.lists.map(|list| list.under(self.settings.mark)), ..self }
+    }
+
     /// The first line of `D`.
     pub fn line(&self) -> String {
         let cycles =
             [u8::from(self.open), self.cycle, u8::from(self.closed), self.last].map(|number| number.to_string());
         let [even, odd] = self.lists.map(|list| list.text());
-        format!("clock {} {} {} EVEN {even} ODD {odd}", self.settings.numbers(), cycles.join(" "), self.rate)
+        let [even_pairs, odd_pairs] = self.lists.map(|list| list.pairs());
+        let marks = format!("{} EVEN{even_pairs} ODD{odd_pairs}", self.settings.mark);
+        format!("clock {} {} {} EVEN {even} ODD {odd} {marks}", self.settings.numbers(), cycles.join(" "), self.rate)
     }
 }
 
@@ -142,11 +186,16 @@ mod tests {
     use super::*;
 
     fn strange() -> ClockNumbers {
-        let settings = Settings { fields: [1, 2, 3, 4, 5, 6, 7, 8, 9, 10, u32::MAX], sends_sync: true };
-        let row = RowNumbers { id: 65535, seen: 0b1111_1110, deviations: [i32::MIN, -7] };
+        let settings = Settings {
+            fields: [1, 2, 3, 4, 5, 6, 7, 8, 9, 10, u32::MAX],
+            sends_sync: true,
+            mark: SheetMark(4_000_000_001),
+        };
+        let pair = [SheetMark(u32::MAX), SheetMark(4_000_000_002)];
+        let row = RowNumbers { id: 65535, seen: 0b1111_1110, deviations: [i32::MIN, -7], pair };
         let lists = [(0, 2), (1, 255)].map(|(id, count)| {
             let mut rows = [row; PLACES];
-            rows[0] = RowNumbers { id, seen: 0, deviations: [1, 2] };
+            rows[0] = RowNumbers { id, seen: 0, deviations: [1, 2], pair };
             ListNumbers { count, rows }
         });
         ClockNumbers { settings, open: true, cycle: 200, closed: true, last: 64, rate: -5, lists }
@@ -158,13 +207,14 @@ mod tests {
         let odd = format!("ODD 255 1 0 0 0{}", " 65535 2 0 -7".repeat(PLACES - 1));
         let settings = "1 2 3 4 5 6 7 8 9 10 4294967295 1";
         let shown = ClockNumbers::of(&strange().state());
-        assert_eq!(shown.line(), format!("clock {settings} 1 200 1 64 -5 {even} {odd}"));
+        let marks = format!("4000000001 EVEN 0 0 0 4000000002 ODD 0 0{}", " 0 4000000002".repeat(PLACES - 1));
+        assert_eq!(shown.line(), format!("clock {settings} 1 200 1 64 -5 {even} {odd} {marks}"));
         assert_eq!(shown, strange().looked_at());
     }
 
     #[test]
     fn what_is_absent_shows_as_0() {
-        assert_eq!(ClockNumbers::default().line(), format!("clock{} EVEN 0 ODD 0", " 0".repeat(17)));
+        assert_eq!(ClockNumbers::default().line(), format!("clock{} EVEN 0 ODD 0 0 EVEN ODD", " 0".repeat(17)));
         assert_eq!(ClockNumbers::default().state(), ClockState::default());
         let numbers = ClockNumbers { cycle: 3, last: 4, ..ClockNumbers::default() };
         assert_eq!(numbers.state(), ClockState::default());

@@ -12,6 +12,7 @@ use crate::settings::{
     self, Settings, DECODING_CORRECTION, DELAY_A, DELAY_B, FIELDS, MOST_STATIC_SLOTS, OFFSET_LIMIT, RATE_LIMIT,
     STATIC_SLOTS, STATIC_WORDS, SYNC_ID_LIMIT,
 };
+use crate::sheet_mark::{SheetMark, USUAL};
 use crate::status_numbers::{HeaderNumbers, StatusNumbers};
 use crate::sync_list::{DEVIATIONS, PLACES};
 
@@ -21,9 +22,9 @@ pub const HIGHEST_SYNC_ID: u16 = MOST_STATIC_SLOTS as u16;
 const NOT_NULL: u8 = 0b00100;
 const SYNC: u8 = 0b01000;
 
-/// A sheet with everything at 0 that can be, and limits as wide as can be.
+/// A sheet with everything at 0 that can be, limits as wide as can be, and the usual mark.
 pub fn wide_settings(sends_sync: bool) -> Settings {
-    let mut settings = Settings { fields: [0; FIELDS], sends_sync };
+    let mut settings = Settings { fields: [0; FIELDS], sends_sync, mark: USUAL };
     for field in [SYNC_ID_LIMIT, OFFSET_LIMIT, RATE_LIMIT, STATIC_SLOTS] {
         settings = settings.with_field(field, settings::ends(field).1);
     }
@@ -56,9 +57,10 @@ impl Last {
     }
 }
 
+/// A row under the usual mark, also where it isn't looked at.
 pub fn row(id: u16, on_a: Option<i32>, on_b: Option<i32>) -> RowNumbers {
     let seen = u8::from(on_a.is_some()) + 2 * u8::from(on_b.is_some());
-    RowNumbers { id, seen, deviations: [on_a.unwrap_or(0), on_b.unwrap_or(0)] }
+    RowNumbers { id, seen, deviations: [on_a.unwrap_or(0), on_b.unwrap_or(0)], pair: [USUAL; 2] }
 }
 
 pub fn row_on(id: u16, channel: Channel, deviation: i32) -> RowNumbers {
@@ -75,9 +77,9 @@ pub fn list(rows: &[RowNumbers]) -> ListNumbers {
     list
 }
 
-/// A state in which this cycle is open.
+/// A state in which this cycle is open, with the mark of the settings in its lists.
 pub fn open_at(settings: Settings, cycle: u8, lists: [ListNumbers; 2]) -> ClockNumbers {
-    ClockNumbers { settings, open: true, cycle, lists, ..ClockNumbers::default() }
+    ClockNumbers { settings, open: true, cycle, lists, ..ClockNumbers::default() }.marked()
 }
 
 /// The state that closing leaves of it.
@@ -101,6 +103,7 @@ pub fn fair_clock(random: &mut Random) -> ClockNumbers {
         rate,
         lists: [(); 2].map(|_| fair_list(random, limit, &ids)),
     }
+    .marked()
 }
 
 /// A list of some of these IDs, with numbers in the rows behind them that nobody looks at.
@@ -129,7 +132,8 @@ pub fn some_ids(random: &mut Random, count: usize) -> Vec<u16> {
 
 fn fair_row(random: &mut Random, id: u16) -> RowNumbers {
     let seen = random.between(1, 3) as u8;
-    RowNumbers { id, seen, deviations: [fair_deviation(random), fair_deviation(random)] }
+    let deviations = [(); 2].map(|_| fair_deviation(random));
+    RowNumbers { id, seen, deviations, pair: [(); 2].map(|_| SheetMark::any(random)) }
 }
 
 /// Small as a rule, the ends of the range now and then.

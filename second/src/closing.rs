@@ -5,7 +5,8 @@ use std::ops::RangeInclusive;
 use crate::clock::{list_of, ClockState};
 use crate::correction::{halved, Found};
 use crate::settings::{Settings, DRIFT_DAMPING, EXTERNAL_OFFSET_UNIT, EXTERNAL_RATE_UNIT, OFFSET_LIMIT, RATE_LIMIT};
-use crate::sync_list::{Sighting, SyncList};
+use crate::sheet_mark::SheetMark;
+use crate::sync_list::{Measurement, Sighting, SyncList};
 
 /// The external controls, one for each term.
 #[derive(Clone, Copy, Debug, PartialEq, Eq, PartialOrd, Ord)]
@@ -39,6 +40,8 @@ pub struct Closing {
     pub rate: Option<Found>,
     pub offset_term: i64,
     pub rate_term: i64,
+    /// 02 C-17: that of the sheet by which all this was worked out.
+    pub mark: SheetMark,
 }
 
 impl Closing {
@@ -62,6 +65,7 @@ impl Closing {
             // The external term comes last: it is neither limited nor stored.
             offset_term: offset_term + i64::from(controls.offset) * settings.signed(EXTERNAL_OFFSET_UNIT),
             rate_term: rate_term + i64::from(controls.rate) * settings.signed(EXTERNAL_RATE_UNIT),
+            mark: settings.mark,
         }
     }
 
@@ -79,12 +83,12 @@ impl Closing {
     /// The numbers behind that of the answer.
     pub fn numbers(&self) -> String {
         let flags = self.flags().map(|flag| u8::from(flag).to_string()).join(" ");
-        format!("{} {} {flags} {}", self.offset_term, self.rate_term, self.deviations.len())
+        format!("{} {} {flags} {} {}", self.offset_term, self.rate_term, self.deviations.len(), self.mark)
     }
 }
 
 fn deviations_of(sighting: &Sighting) -> Vec<i64> {
-    sighting.deviations.values().map(|deviation| i64::from(*deviation)).collect()
+    sighting.measurements.values().map(|measurement| i64::from(measurement.deviation)).collect()
 }
 
 fn offset(settings: &Settings, deviations: &[Vec<i64>]) -> Option<Found> {
@@ -124,9 +128,9 @@ fn differences(lists: &[SyncList; 2]) -> Vec<Vec<i64>> {
 
 /// Odd minus even on each channel that has both.
 fn pairs(earlier: &Sighting, later: &Sighting) -> Vec<i64> {
-    let on_channel = |(channel, odd): (_, &i32)| {
-        let even = earlier.deviations.get(channel)?;
-        Some(i64::from(*odd) - i64::from(*even))
+    let on_channel = |(channel, odd): (_, &Measurement)| {
+        let even = earlier.measurements.get(channel)?;
+        Some(i64::from(odd.deviation) - i64::from(even.deviation))
     };
-    later.deviations.iter().filter_map(on_channel).collect()
+    later.measurements.iter().filter_map(on_channel).collect()
 }

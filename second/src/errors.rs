@@ -10,6 +10,7 @@ use crate::listed_frames::SHORT;
 use crate::replay::{self, Outcome, Replay};
 use crate::script::{Broken, Cause, Command, Encode, Opening, Write, LIMIT};
 use crate::settings::{Settings, FIELDS};
+use crate::sheet_mark::SheetMark;
 use crate::status_numbers::{HeaderNumbers, StatusNumbers};
 
 pub use clock::{CLOSED, OPEN};
@@ -52,7 +53,8 @@ fn encode() -> Encode {
 }
 
 /// In range, and slot 1 is static with them.
-const SETTINGS: Settings = Settings { fields: [1, 2, 3, 4, 5, 6, 7, 8, 9, 0, 11], sends_sync: true };
+const SETTINGS: Settings =
+    Settings { fields: [1, 2, 3, 4, 5, 6, 7, 8, 9, 0, 11], sends_sync: true, mark: SheetMark(0x1234_5678) };
 
 const OPENING: Opening = Opening { settings: SETTINGS, channel: 0, slot: 1, cycle: 0 };
 
@@ -72,11 +74,11 @@ const STATUS: StatusNumbers = StatusNumbers {
 };
 
 /// Its line.
-const STATUS_SHOWN: &str = "status 1 2 3 4 5 6 7 8 9 0 11 1 0 1 0 16 0 1 4 1 0 1695 0\n";
+const STATUS_SHOWN: &str = "status 1 2 3 4 5 6 7 8 9 0 11 1 0 1 0 16 0 1 4 1 0 1695 0 305419896\n";
 
 /// The lines of the states of all zeros.
-const ZERO_CLOCK: &str = "clock 0 0 0 0 0 0 0 0 0 0 0 0 0 0 0 0 0 EVEN 0 ODD 0\n";
-const ZERO_STATUS: &str = "status 0 0 0 0 0 0 0 0 0 0 0 0 0 0 0 0 0 0 0 0 0 0 0\n";
+const ZERO_CLOCK: &str = "clock 0 0 0 0 0 0 0 0 0 0 0 0 0 0 0 0 0 EVEN 0 ODD 0 0 EVEN ODD\n";
+const ZERO_STATUS: &str = "status 0 0 0 0 0 0 0 0 0 0 0 0 0 0 0 0 0 0 0 0 0 0 0 0\n";
 
 pub fn all() -> Vec<Small> {
     let mut all = vec![whole(&[], "")];
@@ -128,13 +130,13 @@ fn good_ones() -> Vec<(Vec<u8>, String)> {
         (Command::OpenSlot(OPENING), line("slot 0 0\n")),
         (Command::Boundary, line("event 0\n")),
         (Command::Arrived(frame()), line("event 0\n")),
-        (Command::Show, shown("status 1 2 3 4 5 6 7 8 9 0 11 1 0 1 0 20 0 1 4 1 0 1695 0\n")),
+        (Command::Show, shown("status 1 2 3 4 5 6 7 8 9 0 11 1 0 1 0 20 0 1 4 1 0 1695 0 305419896\n")),
         (Command::PutStatus(STATUS), line("status put\n")),
         (Command::OwnSending, line("event 0\n")),
     ];
     commands.extend(clock::good_ones());
     commands.extend([
-        (Command::Show, shown("status 1 2 3 4 5 6 7 8 9 0 11 1 0 1 0 56 0 1 4 1 0 1695 0\n")),
+        (Command::Show, shown("status 1 2 3 4 5 6 7 8 9 0 11 1 0 1 0 56 0 1 4 1 0 1695 0 305419896\n")),
         (Command::OpenSlot(Opening { channel: 2, ..OPENING }), line("slot 1 0\n")),
         (Command::Show, shown(ZERO_STATUS)),
     ]);
@@ -241,7 +243,7 @@ fn no_errors() -> Vec<Small> {
     let same = format!("status put\n{}", shown(STATUS_SHOWN));
     all.push(with_byte(&put, MARKS, 0b1101_0000, &same));
     all.push(with_byte(&put, FLAGS, 0b1110_0100, &same));
-    let last_reason = shown("status 1 2 3 4 5 6 7 8 9 0 11 1 0 1 0 16 6 1 4 1 0 1695 0\n");
+    let last_reason = shown("status 1 2 3 4 5 6 7 8 9 0 11 1 0 1 0 16 6 1 4 1 0 1695 0 305419896\n");
     all.push(with_byte(&put, REASON, 6, &format!("status put\n{last_reason}")));
     all
 }

@@ -43,6 +43,7 @@ mod samples;
 mod scene;
 mod script;
 mod settings;
+mod sheet_mark;
 mod slot;
 mod slot_mixture;
 mod status_numbers;

@@ -17,6 +17,7 @@ mod null_frames;
 mod reader;
 mod reader_soundness;
 mod second_frames;
+mod sheet_marks;
 mod slots;
 mod soundness;
 mod stays;
@@ -38,6 +39,7 @@ use crate::script::{Cause, Command, OnChannel};
 use crate::status_numbers::StatusNumbers;
 use reader::Behind;
 use second_frames::Frames;
+use sheet_marks::Sheets;
 use stays::{Origin, Subject};
 
 #[derive(Default)]
@@ -70,6 +72,7 @@ pub struct Reached {
     odd_opened: Option<Last>,
     /// The statuses with reason (f) that were measured in the cycle that was opened last.
     measured_with_f: Vec<String>,
+    sheets: Sheets,
     behind: Behind,
 }
 
@@ -127,6 +130,7 @@ impl Reached {
         self.add_given(command, answer);
         self.add_stayed(letter, answer.number());
         self.add_soundness(letter, answer);
+        self.add_sheet_marks(command, answer);
         match command {
             Command::Checksum(given) => self.add_checksum(given, answer),
             Command::Read(given) => self.add_read(given, answer),
@@ -179,6 +183,7 @@ fn required() -> Vec<String> {
     all.extend(measuring::required());
     all.extend(closing::required());
     all.extend(two_cycles::required());
+    all.extend(sheet_marks::required());
     all.extend(reader::required());
     all.extend(reader_soundness::required());
     all.extend(ends::required());
@@ -189,12 +194,16 @@ fn required() -> Vec<String> {
 mod tests {
     use super::*;
     use crate::channel::Channel;
+    use crate::clock::Times;
+    use crate::clock_scene::{status_with, wide_settings};
+    use crate::closing::Controls;
     use crate::listed_frames::NOT_ZEROS;
     use crate::plan::Expected;
     use crate::random::Random;
     use crate::replay::Replay;
     use crate::scene::Scene;
     use crate::script::Write;
+    use crate::sheet_mark::SheetMark;
 
     fn reaches(commands: &[&Command], text: &str) -> bool {
         let mut plan = Plan::default();
@@ -245,5 +254,29 @@ mod tests {
         assert!(!reaches(&[&write, &read], again));
         assert!(!reaches(&[&Command::read(0, &frame), &write], again));
         assert!(reaches(&[&read], "R of a null frame of 4 bytes, zeros: false, on 1: 0"));
+    }
+
+    /// 02 C-17: what follows a load counts behind the sheet that was there before, until another one is put.
+    #[test]
+    fn loads_over_lists_count_by_their_marks() {
+        let sheet = |mark| Command::Load(wide_settings(false).with_mark(SheetMark(mark)));
+        let status = Command::PutStatus(status_with(wide_settings(false), Channel::A, 7, 4, 0b01000));
+        let [open, measure, close] =
+            [Command::OpenCycle(4), Command::Measure(Times::default()), Command::CloseCycle(Controls::NONE)];
+        let put = Command::put_clock(&ClockNumbers::default());
+        let (one, two, show) = (sheet(1), sheet(2), Command::Show);
+        let cycle = [&open, &status, &measure];
+        let behind = |between: &[&Command], text: &str| {
+            reaches(&[&[&one][..], &cycle, between, &cycle, &[&show, &close, &show]].concat(), text)
+        };
+        let same = "load in an even cycle, the same mark, the same fields: measured once more on A";
+        let other = "load in an even cycle, another mark, the same fields: measured once more on A";
+        assert!(behind(&[&one], same) && !behind(&[&one], other));
+        assert!(behind(&[&two], other) && !behind(&[&two], same));
+        assert!(!behind(&[&one, &two], same) && !behind(&[&two, &put, &two], other));
+        let report = |mark| {
+            format!("Opened: an even cycle closed under mark {mark}, offset missing: false, rate missing: false")
+        };
+        assert!(behind(&[&two], &report(2)) && !behind(&[&two], &report(1)));
     }
 }

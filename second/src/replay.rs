@@ -128,41 +128,44 @@ mod tests {
         0, 0, 0, 2, 0, 0, 0, 1,
     ];
 
+    /// 257, and the last two of all numbers.
+    const MARKS: [&[u8]; 3] = [&[1, 1, 0, 0], &[254, 255, 255, 255], &[255; 4]];
+
     #[test]
     fn slot_lines_by_hand() {
-        let opening = [b"S", &SHEET[..], b"\x01\x01\x00\x00"].concat();
-        let refused = [b"S", &SHEET[..], b"\x01\x00\x08\x00"].concat();
-        let out_of_range = [b"S", &[0; 45][..], b"\x02\x00\x00\xFF"].concat();
+        let opening = [b"S", &SHEET[..], b"\x01\x01\x00\x00", MARKS[0]].concat();
+        let refused = [b"S", &SHEET[..], b"\x01\x00\x08\x00", MARKS[1]].concat();
+        let out_of_range = [b"S", &[0; 45][..], b"\x02\x00\x00\xFF", MARKS[2]].concat();
         let frame = b"A\x08\x00\x20\x01\x01\xA7\xC0\x3B\xD0\x8FD";
         let events = [b"DXD", &frame[..], b"BDA\x00\x00D", frame, frame].concat();
         let script = [b"DX", &opening[..], &events, &refused, b"D", &opening, &out_of_range, b"BD"].concat();
-        let zeros = "status 0 0 0 0 0 0 0 0 0 0 0 0 0 0 0 0 0 0 0 0 0 0 0";
-        let zero_clock = "clock 0 0 0 0 0 0 0 0 0 0 0 0 0 0 0 0 0 EVEN 0 ODD 0";
+        let zeros = "status 0 0 0 0 0 0 0 0 0 0 0 0 0 0 0 0 0 0 0 0 0 0 0 0";
+        let zero_clock = "clock 0 0 0 0 0 0 0 0 0 0 0 0 0 0 0 0 0 EVEN 0 ODD 0 0 EVEN ODD";
         let lines = [
             zero_clock,
             zeros,
             "event 23",
             "slot 0 0",
             zero_clock,
-            "status 0 0 0 2 0 0 0 0 0 0 2 1 1 1 0 0 0 0 0 0 0 0 0",
+            "status 0 0 0 2 0 0 0 0 0 0 2 1 1 1 0 0 0 0 0 0 0 0 0 257",
             "event 0",
             zero_clock,
-            "status 0 0 0 2 0 0 0 0 0 0 2 1 1 1 0 32 0 0 0 0 0 0 0",
+            "status 0 0 0 2 0 0 0 0 0 0 2 1 1 1 0 32 0 0 0 0 0 0 0 257",
             "event 0",
             zero_clock,
-            "status 0 0 0 2 0 0 0 0 0 0 2 1 1 1 0 56 0 1 4 1 0 1695 0",
+            "status 0 0 0 2 0 0 0 0 0 0 2 1 1 1 0 56 0 1 4 1 0 1695 0 257",
             "event 0",
             zero_clock,
-            "status 0 0 0 2 0 0 0 0 0 0 2 1 1 1 0 60 0 1 4 1 0 1695 0",
+            "status 0 0 0 2 0 0 0 0 0 0 2 1 1 1 0 60 0 1 4 1 0 1695 0 257",
             "event 0",
             zero_clock,
-            "status 0 0 0 2 0 0 0 0 0 0 2 1 1 1 0 61 0 1 4 1 0 1695 0",
+            "status 0 0 0 2 0 0 0 0 0 0 2 1 1 1 0 61 0 1 4 1 0 1695 0 257",
             "event 0",
             zero_clock,
-            "status 0 0 0 2 0 0 0 0 0 0 2 1 1 1 0 63 6 1 4 1 0 1695 0",
+            "status 0 0 0 2 0 0 0 0 0 0 2 1 1 1 0 63 6 1 4 1 0 1695 0 257",
             "event 0",
             zero_clock,
-            "status 0 0 0 2 0 0 0 0 0 0 2 1 1 1 0 63 6 1 4 1 0 1695 0",
+            "status 0 0 0 2 0 0 0 0 0 0 2 1 1 1 0 63 6 1 4 1 0 1695 0 257",
             "slot 9 0",
             zero_clock,
             zeros,
@@ -177,30 +180,81 @@ mod tests {
 
     #[test]
     fn clock_lines_by_hand() {
-        let out_of_range = [b"L", &[0; 45][..]].concat();
-        let load = [b"L", &SHEET[..]].concat();
+        let out_of_range = [b"L", &[0; 45][..], MARKS[1]].concat();
+        let load = [b"L", &SHEET[..], MARKS[2]].concat();
         let times = b"M\x09\x00\x00\x00\x02\x00\x00\x00";
         let script = [&load[..], b"DC\x00\x00O\x40O\x3FO\x00", times, b"C\x02\x00C\xFF\x01D", &out_of_range, b"O\x00D"];
-        let zeros = "status 0 0 0 0 0 0 0 0 0 0 0 0 0 0 0 0 0 0 0 0 0 0 0";
+        let zeros = "status 0 0 0 0 0 0 0 0 0 0 0 0 0 0 0 0 0 0 0 0 0 0 0 0";
         let lines = [
             "load 0 0",
-            "clock 0 0 0 2 0 0 0 0 0 0 2 1 0 0 0 0 0 EVEN 0 ODD 0",
+            "clock 0 0 0 2 0 0 0 0 0 0 2 1 0 0 0 0 0 EVEN 0 ODD 0 4294967295 EVEN ODD",
             zeros,
-            "close 18 0 0 0 0 0 0 0",
+            "close 18 0 0 0 0 0 0 0 0",
             "open 11",
             "open 0",
             "open 19",
             "measure 23 0",
-            "close 21 0 0 0 0 0 0 0",
-            "close 0 0 0 1 1 0 0 0",
-            "clock 0 0 0 2 0 0 0 0 0 0 2 1 0 0 1 63 0 EVEN 0 ODD 0",
+            "close 21 0 0 0 0 0 0 0 0",
+            "close 0 0 0 1 1 0 0 0 4294967295",
+            "clock 0 0 0 2 0 0 0 0 0 0 2 1 0 0 1 63 0 EVEN 0 ODD 0 4294967295 EVEN ODD",
             zeros,
             "load 17 4",
             "open 23",
-            "clock 0 0 0 0 0 0 0 0 0 0 0 0 0 0 0 0 0 EVEN 0 ODD 0",
+            "clock 0 0 0 0 0 0 0 0 0 0 0 0 0 0 0 0 0 EVEN 0 ODD 0 0 EVEN ODD",
             zeros,
         ];
         assert_eq!(text(&script.concat()), lines.join("\n") + "\n");
+    }
+
+    /// 02 C-17: a sheet with mark 257, and a status with the last mark of all.
+    #[test]
+    fn loaded_marks_by_hand() {
+        let load = [b"L", &SHEET[..], MARKS[0]].concat();
+        // In slot 1 on B a sync frame of ID 1 is kept, whose header checksum is 861.
+        let status = b"\x01\x01\x00\x04\x10\x00\x01\x0C\x01\x00\x00\x5D\x03\x04";
+        let status = [b"T", &SHEET[..], status, MARKS[2]].concat();
+        let script = [&load[..], &status, b"O\x04M\x09\x00\x00\x00\x02\x00\x00\x00DC\x00\x02C\x00\x00", &load, b"D"];
+        let shown = "status 0 0 0 2 0 0 0 0 0 0 2 1 1 1 4 16 0 1 12 1 0 861 4 4294967295";
+        let lines = [
+            "load 0 0",
+            "status put",
+            "open 0",
+            "measure 0 7",
+            "clock 0 0 0 2 0 0 0 0 0 0 2 1 1 4 0 0 0 EVEN 1 1 2 0 7 ODD 0 257 EVEN 0 257 ODD",
+            shown,
+            "close 21 0 0 0 0 0 0 0 0",
+            "close 0 0 0 0 0 1 0 1 257",
+            "load 0 0",
+            "clock 0 0 0 2 0 0 0 0 0 0 2 1 0 0 0 0 0 EVEN 0 ODD 0 257 EVEN ODD",
+            shown,
+        ];
+        assert_eq!(text(&script.concat()), lines.join("\n") + "\n");
+    }
+
+    /// 02 C-17: an ID in the even list, seen on both channels, and one in the odd list, seen on B. Their marks are 257 but
+    /// for one at most; those that nobody looks at are others.
+    #[test]
+    fn put_marks_by_hand() {
+        let put = |pairs: [&[u8]; 3]| {
+            let even = b"\x01\x04\x00\x00\x00\x00\x00\x00\x01\x01\x00\x03\x05\x00\x00\x00\xFF\xFF\xFF\xFF";
+            let odd = b"\x01\x02\x00\x02\x00\x00\x00\x00\x09\x00\x00\x00";
+            let rows = [&SHEET[..], even, &[0; 14 * 11], odd, &[0; 14 * 11]].concat();
+            let [on_a, on_b, of_odd] = pairs;
+            let marks = [MARKS[0], on_a, on_b, &[7; 14 * 8], &[8; 4], of_odd, &[9; 14 * 8]].concat();
+            [b"K", &rows[..], &marks, b"DC\x00\x00"].concat()
+        };
+        let clock = "clock 0 0 0 2 0 0 0 0 0 0 2 1 1 4 0 0 0 EVEN 1 1 3 5 -1 ODD 1 2 2 0 9 257 EVEN";
+        let cases = [
+            ([0, 0, 0], "257 257 ODD 0 257", "close 0 0 0 0 0 0 0 1 257"),
+            ([1, 0, 0], "4294967294 257 ODD 0 257", "close 23 0 0 0 0 0 0 0 0"),
+            ([0, 1, 0], "257 4294967294 ODD 0 257", "close 23 0 0 0 0 0 0 0 0"),
+            ([0, 0, 1], "257 257 ODD 0 4294967294", "close 23 0 0 0 0 0 0 0 0"),
+        ];
+        let zeros = format!("status{}", " 0".repeat(24));
+        for (marks, pairs, closed) in cases {
+            let script = put(marks.map(|mark: usize| MARKS[mark]));
+            assert_eq!(text(&script), format!("clock put\n{clock} {pairs}\n{zeros}\n{closed}\n"));
+        }
     }
 
     #[test]

@@ -12,6 +12,7 @@ use crate::reason::{Reason, Test};
 use crate::refusal::Refusal;
 use crate::script::{Command, Opening};
 use crate::settings::{Settings, RANGES, STATIC_SLOTS, STATIC_WORDS};
+use crate::sheet_mark::SheetMark;
 use crate::slot::SlotStatus;
 use crate::status_numbers::{HeaderNumbers, StatusNumbers};
 
@@ -159,10 +160,10 @@ fn any_reason(random: &mut Random, valid: bool) -> Reason {
     Reason::Missed(random.pick(&Test::IN_ORDER))
 }
 
-/// Settings in range, the ends of the ranges more often than chance would have it.
+/// Settings in range, the ends of the ranges more often than chance would have it, with any mark.
 pub fn fair_settings(random: &mut Random) -> Settings {
     let fields = RANGES.map(|range| fair_value(random, &range));
-    let settings = Settings { fields, sends_sync: random.coin() };
+    let settings = Settings { fields, sends_sync: random.coin(), mark: SheetMark::any(random) };
     // Few words as a rule, to keep scripts short.
     settings.with_field(STATIC_WORDS, fair_words(random).into())
 }

@@ -235,6 +235,7 @@ mod tests {
     use super::*;
     use crate::channel::Channel;
     use crate::clock_numbers::{ListNumbers, RowNumbers};
+    use crate::sheet_mark::SheetMark;
     use crate::status_numbers::HeaderNumbers;
     use crate::sync_list::PLACES;
 
@@ -294,15 +295,17 @@ mod tests {
         assert_both_ways(b"Z", &Command::ShowReader);
     }
 
-    /// Fields 1 to 11 as 0x04030201, 0x08070605 and so on, and the switch.
+    /// Fields 1 to 11 as 0x04030201, 0x08070605 and so on, and the switch; the mark is that of below.
     fn settings_by_hand() -> (Vec<u8>, Settings) {
         let script: Vec<u8> = (1..=44).chain([1]).collect();
         let fields = [
             0x04030201, 0x08070605, 0x0C0B0A09, 0x100F0E0D, 0x14131211, 0x18171615, 0x1C1B1A19, 0x201F1E1D, 0x24232221,
             0x28272625, 0x2C2B2A29,
         ];
-        (script, Settings { fields, sends_sync: true })
+        (script, Settings { fields, sends_sync: true, mark: SheetMark(0xF4F3F2F1) })
     }
+
+    const MARK: &[u8] = b"\xF1\xF2\xF3\xF4";
 
     #[test]
     fn slot_commands_by_hand() {
@@ -328,9 +331,10 @@ mod tests {
         ];
         for (mut script, command) in commands {
             match script[0] {
-                b'S' => script.extend([&sheet[..], b"\x09\x31\x32\x33"].concat()),
+                b'S' => script.extend([&sheet[..], b"\x09\x31\x32\x33", MARK].concat()),
                 b'T' => {
-                    script.extend([&sheet[..], b"\x01\x50\x51\x52\xEE\x06\x00\xFF\x53\x54\x55\x56\x57\x58"].concat())
+                    let status = b"\x01\x50\x51\x52\xEE\x06\x00\xFF\x53\x54\x55\x56\x57\x58";
+                    script.extend([&sheet[..], status, MARK].concat())
                 }
                 _ => (),
             }
@@ -343,7 +347,7 @@ mod tests {
         let (sheet, settings) = settings_by_hand();
         let times = Times { observed: 0x04030201, action_point: 0xFFFE0006 };
         let commands = [
-            ([b"L", &sheet[..]].concat(), Command::Load(settings)),
+            ([b"L", &sheet[..], MARK].concat(), Command::Load(settings)),
             (b"O\xFF".to_vec(), Command::OpenCycle(255)),
             (b"M\x01\x02\x03\x04\x06\x00\xFE\xFF".to_vec(), Command::Measure(times)),
             (b"C\x80\x01".to_vec(), Command::CloseCycle(Controls { offset: -128, rate: 1 })),
@@ -352,10 +356,11 @@ mod tests {
         for (script, command) in commands {
             assert_both_ways(&script, &command);
         }
-        assert_eq!(clock_by_hand(&sheet).len(), 386);
+        assert_eq!(clock_by_hand(&sheet).len(), 630);
     }
 
-    /// Rows of the even list count from 1, those of the odd one from 0x11; all bytes of the last row are named.
+    /// Rows of the even list count from 1, those of the odd one from 0x11; all bytes of the last row are named. Behind the
+    /// mark the pairs count in the same way.
     fn clock_by_hand(sheet: &[u8]) -> Vec<u8> {
         let mut script = [b"K", sheet, b"\x00\x41\x01\x42\xFE\xFF\xFF\xFF"].concat();
         for (count, first) in [(0xFF, 1), (3, 0x11)] {
@@ -365,15 +370,23 @@ mod tests {
             }
             script.extend(b"\x21\x43\xFC\x04\x03\x02\x01\xFF\xFF\xFF\x7F");
         }
+        script.extend(MARK);
+        for first in [1, 0x11] {
+            (first..first + PLACES as u8).for_each(|place| script.extend([place, 2, 3, 4, 0, 0, place, 0xFF]));
+        }
         script
     }
 
     fn clock_numbers(settings: Settings) -> ClockNumbers {
         let list = |count, first| {
-            let last = RowNumbers { id: 0x4321, seen: 0xFC, deviations: [0x01020304, 0x7FFFFFFF] };
+            let pair =
+                |place: u16| [0x04030200 + u32::from(place), 0xFF000000 + 0x10000 * u32::from(place)].map(SheetMark);
+            let last = first + PLACES as u16 - 1;
+            let last = RowNumbers { id: 0x4321, seen: 0xFC, deviations: [0x01020304, 0x7FFFFFFF], pair: pair(last) };
             let mut rows = [last; PLACES];
-            for (place, row) in rows.iter_mut().enumerate().take(PLACES - 1) {
-                *row = RowNumbers { id: first + place as u16, seen: 1, deviations: [place as i32, 0] };
+            for (place, row) in (0..).zip(&mut rows[..PLACES - 1]) {
+                let id = first + place;
+                *row = RowNumbers { id, seen: 1, deviations: [place.into(), 0], pair: pair(id) };
             }
             ListNumbers { count, rows }
         };

@@ -3,6 +3,7 @@
 use std::ops::RangeInclusive;
 
 use crate::frame::MOST_WORDS;
+use crate::sheet_mark::SheetMark;
 use crate::sync_list::PLACES;
 
 pub const FIELDS: usize = 11;
@@ -66,6 +67,8 @@ pub fn beyond(field: usize) -> Vec<(u32, u32)> {
 pub struct Settings {
     pub fields: [u32; FIELDS],
     pub sends_sync: bool,
+    /// 02 C-17: says which sheet this is; `numbers` leaves it out, as it stands at the end of an item or line.
+    pub mark: SheetMark,
 }
 
 impl Settings {
@@ -82,6 +85,10 @@ impl Settings {
     pub fn with_field(mut self, number: usize, value: u32) -> Settings {
         self.fields[number - 1] = value;
         self
+    }
+
+    pub fn with_mark(self, mark: SheetMark) -> Settings {
+        Settings { mark, ..self }
     }
 
     /// The fields and the switch, as `D` shows them.
@@ -120,17 +127,20 @@ mod tests {
     ];
 
     fn lowest() -> Settings {
-        Settings { fields: ENDS.map(|(_, lowest, _)| lowest), sends_sync: false }
+        Settings { fields: ENDS.map(|(_, lowest, _)| lowest), ..Settings::default() }
     }
 
+    /// 02 C-17: under whatever mark.
     #[test]
     fn the_ends_of_every_range_are_taken_and_nothing_beyond() {
         for (field, lowest_value, highest_value) in ENDS {
-            let with = |value| lowest().with_field(field, value).first_out_of_range();
-            assert_eq!((with(lowest_value), with(highest_value)), (None, None));
-            assert_eq!((with(highest_value + 1), with(u32::MAX)), (Some(field), Some(field)));
-            let below = lowest_value.checked_sub(1);
-            assert_eq!(below.and_then(with), below.map(|_| field));
+            for mark in [0, 1, 2, u32::MAX].map(SheetMark) {
+                let with = |value| lowest().with_mark(mark).with_field(field, value).first_out_of_range();
+                assert_eq!((with(lowest_value), with(highest_value)), (None, None));
+                assert_eq!((with(highest_value + 1), with(u32::MAX)), (Some(field), Some(field)));
+                let below = lowest_value.checked_sub(1);
+                assert_eq!(below.and_then(with), below.map(|_| field));
+            }
         }
     }
 

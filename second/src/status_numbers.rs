@@ -100,19 +100,21 @@ impl StatusNumbers {
         let kept = [header.id, header.words.into(), header.checksum, header.cycle.into()];
         let numbers = [&opened[..], &found, &kept].concat();
         let rest: Vec<String> = numbers.iter().map(u16::to_string).collect();
-        format!("status {} {}", self.settings.numbers(), rest.join(" "))
+        format!("status {} {} {}", self.settings.numbers(), rest.join(" "), self.settings.mark)
     }
 }
 
 #[cfg(test)]
 mod tests {
     use super::*;
+    use crate::sheet_mark::SheetMark;
 
     fn all_different() -> StatusNumbers {
         StatusNumbers {
             settings: Settings {
                 fields: [101, 102, 103, 104, 105, 106, 107, 108, 109, 110, u32::MAX],
                 sends_sync: true,
+                mark: SheetMark(4_000_000_001),
             },
             channel: Channel::B,
             slot: 65535,
@@ -127,8 +129,9 @@ mod tests {
     #[test]
     fn every_number_has_its_place() {
         let line = "status 101 102 103 104 105 106 107 108 109 110 4294967295 1 1 65535 113 42 6 1 21 117 118 119 120";
+        let line = format!("{line} 4000000001");
         assert_eq!(all_different().line(), line);
-        assert_eq!(StatusNumbers::default().line(), format!("status{}", " 0".repeat(23)));
+        assert_eq!(StatusNumbers::default().line(), format!("status{}", " 0".repeat(24)));
     }
 
     #[test]

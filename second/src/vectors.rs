@@ -68,9 +68,9 @@ mod tests {
     #[test]
     fn the_listed_cases_hold_and_reach_everything() {
         let vectors = build().unwrap();
-        assert!(vectors.script.len() < 3_600_000);
-        assert!(Replay::of(&vectors.script).count() < 88_500);
-        assert!(vectors.text.len() < 5_100_000);
+        assert!(vectors.script.len() < 4_500_000);
+        assert!(Replay::of(&vectors.script).count() < 97_000);
+        assert!(vectors.text.len() < 6_500_000);
         assert!(samples(&vectors.script) < 3_000_000);
     }
 

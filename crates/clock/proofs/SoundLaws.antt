@@ -4,7 +4,7 @@ use mathlib.Core.Path.{_≡_, ap}
 use mathlib.Core.Bool.{true, false, not}
 use mathlib.Core.List.{List, [], _∷_}
 use native.Mathlib.Omega.{arith}
-use borrow.Author.Tests.{leb-true, eqb-true, not-true, not-false}
+use borrow.Author.Tests.{leb-true, le-leb, eqb-true, not-true, not-false}
 use lib.Dec.{leb, eqb}
 use lib.IntN.{ℤ, pos, negℤ}
 use lib.ListN.{getD, length}
@@ -14,12 +14,13 @@ use Rattle.numbers.proofs.Truth.{both-true, true-both, neither}
 use Rattle.numbers.proofs.Walk.{cases}
 use Rattle.midpoint.proofs.RangeLaws.{Near}
 use Rattle.settings.specs.declared.Range.{Range}
+use Rattle.settings.specs.declared.Mark.{Mark}
 use Rattle.settings.specs.declared.Settings.{Settings}
 use Rattle.settings.specs.Sheet.{field, _to_, ranges, within, firstOutside, firstOutOfRange, outOfRange, syncIdLimit, rateLimit}
 use Rattle.correction.specs.Terms.{isOutside}
 use Rattle.sync_list.specs.declared.list.SyncList.{SyncList}
 use Rattle.sync_list.specs.Lists.{listed, idsOf, noneTwice}
-use Rattle.list_soundness.specs.Sound.{rowsSound, listSound}
+use Rattle.list_soundness.specs.Sound.{rowsSound, allMarked, listSound}
 use Rattle.clock.specs.declared.state.Clock.{Clock}
 use Rattle.clock.specs.Sound.{cycleSound, rateSound, sound}
 
@@ -29,8 +30,8 @@ pub record Clauses (c : Clock) : Type 0 where
   pub settings : outOfRange (c .settings) ≡ false
   pub opened : cycleSound (c .opened) ≡ true
   pub last-closed : cycleSound (c .«last_closed») ≡ true
-  pub even : listSound (syncIdLimit (c .settings)) (c .even) ≡ true
-  pub odd : listSound (syncIdLimit (c .settings)) (c .odd) ≡ true
+  pub even : listSound (syncIdLimit (c .settings)) (c .settings .mark) (c .even) ≡ true
+  pub odd : listSound (syncIdLimit (c .settings)) (c .settings .mark) (c .odd) ≡ true
   pub rate : rateSound (c .rate) (rateLimit (c .settings)) ≡ true
 
 pub clauses : (c : Clock) → sound c ≡ true → Clauses c
@@ -38,8 +39,8 @@ clauses c e =
     let h₁ = both-true (not (outOfRange (c .settings))) _ e in
     let h₂ = both-true (cycleSound (c .opened)) _ (h₁ .1) in
     let h₃ = both-true (cycleSound (c .«last_closed»)) _ (h₂ .1) in
-    let h₄ = both-true (listSound (syncIdLimit (c .settings)) (c .even)) _ (h₃ .1) in
-    let h₅ = both-true (listSound (syncIdLimit (c .settings)) (c .odd)) _ (h₄ .1) in
+    let h₄ = both-true (listSound (syncIdLimit (c .settings)) (c .settings .mark) (c .even)) _ (h₃ .1) in
+    let h₅ = both-true (listSound (syncIdLimit (c .settings)) (c .settings .mark) (c .odd)) _ (h₄ .1) in
     record {
       settings = not-true (outOfRange (c .settings)) (h₁ .0);
       opened = h₂ .0;
@@ -54,8 +55,8 @@ sound-by c k =
     true-both (not (outOfRange (c .settings))) _ (ap not (k .settings))
     (true-both (cycleSound (c .opened)) _ (k .opened)
     (true-both (cycleSound (c .«last_closed»)) _ (k .last-closed)
-    (true-both (listSound (syncIdLimit (c .settings)) (c .even)) _ (k .even)
-    (true-both (listSound (syncIdLimit (c .settings)) (c .odd)) _ (k .odd) (k .rate)))))
+    (true-both (listSound (syncIdLimit (c .settings)) (c .settings .mark) (c .even)) _ (k .even)
+    (true-both (listSound (syncIdLimit (c .settings)) (c .settings .mark) (c .odd)) _ (k .odd) (k .rate)))))
 
 -- ---- a field of a sheet in range is at most its highest value
 
@@ -83,15 +84,25 @@ at-most s e number h = at-most-highest 0 ranges (s .fields) (number - 1) (eqb-tr
 
 -- ---- lists
 
-module _ (limit : ℕ) (l : SyncList) (e : listSound limit l ≡ true) where
-  pub count-within : l .count ≤ limit
-  count-within = leb-true (l .count) limit (both-true (leb (l .count) limit) _ e .0)
+-- The clauses of a list, apart.
+pub record ListClauses (limit : ℕ) (mark : Mark) (l : SyncList) : Type 0 where
+  pub few : l .count ≤ limit
+  pub rows : rowsSound (listed l) ≡ true
+  pub ids : noneTwice (idsOf (listed l)) ≡ true
+  pub marks : allMarked mark (listed l) ≡ true
 
-  pub rows-good : rowsSound (listed l) ≡ true
-  rows-good = both-true (rowsSound (listed l)) _ (both-true (leb (l .count) limit) _ e .1) .0
+module _ (limit : ℕ) (mark : Mark) (l : SyncList) where
+  pub list-clauses : listSound limit mark l ≡ true → ListClauses limit mark l
+  list-clauses e =
+      let h₁ = both-true (leb (l .count) limit) _ e in
+      let h₂ = both-true (rowsSound (listed l)) _ (h₁ .1) in
+      let h₃ = both-true (noneTwice (idsOf (listed l))) _ (h₂ .1) in
+      record { few = leb-true (l .count) limit (h₁ .0); rows = h₂ .0; ids = h₃ .0; marks = h₃ .1 }
 
-  pub ids-different : noneTwice (idsOf (listed l)) ≡ true
-  ids-different = both-true (rowsSound (listed l)) _ (both-true (leb (l .count) limit) _ e .1) .1
+  pub list-sound-by : ListClauses limit mark l → listSound limit mark l ≡ true
+  list-sound-by k =
+      true-both (leb (l .count) limit) _ (le-leb (l .count) limit (k .few))
+      (true-both (rowsSound (listed l)) _ (k .rows) (true-both (noneTwice (idsOf (listed l))) _ (k .ids) (k .marks)))
 
 -- ---- a term that is not outside its limit
 

@@ -19,11 +19,12 @@ cycleSound (Is cycle) = not (cycleTooHigh (cycle .0))
 abbrev pub rateSound : SignedMicrotick → ℕ → Bool
 rateSound rate limit = not (isOutside limit (rate .0))
 
--- "A clock state is sound if": the clauses of 01, in their order. The measurements of a list are told by its rows.
+-- "A clock state is sound if": the clauses of 01, in their order. The measurements of a list are told by its rows, and each carries the mark
+-- of the state's settings (C-17).
 abbrev pub sound : Clock → Bool
 sound c =
     not (outOfRange (c .settings))
     && (cycleSound (c .opened)
     && (cycleSound (c .«last_closed»)
-    && (listSound (syncIdLimit (c .settings)) (c .even)
-    && (listSound (syncIdLimit (c .settings)) (c .odd) && rateSound (c .rate) (rateLimit (c .settings))))))
+    && (listSound (syncIdLimit (c .settings)) (c .settings .mark) (c .even)
+    && (listSound (syncIdLimit (c .settings)) (c .settings .mark) (c .odd) && rateSound (c .rate) (rateLimit (c .settings))))))

@@ -5,8 +5,8 @@ use crate::state::Clock;
 use crate::state::CycleOrNone;
 use base_types::SignedMicrotick;
 
-// Soundness as 01 writes it, clause by clause, of the lists that the rows stand for. It is no stricter: refusal 23 is given exactly where
-// a state is not sound. What is asked of rows besides is that they stand for a list at all.
+// Soundness as 01 writes it, clause by clause, with that of 02 (C-17) on marks, of the lists that the rows stand for. It is no stricter:
+// refusal 23 is given exactly where a state is not sound. What is asked of rows besides is that they stand for a list at all.
 pub fn is_sound(clock: Clock) -> bool
     ensures { λ r. ⌜ r ≡ sound clock ⌝ }
 {
@@ -25,10 +25,11 @@ pub fn is_sound(clock: Clock) -> bool
         return false;
     }
     let limit = settings.sync_id_limit();
-    if !list_soundness::is_sound(even, limit) {
+    let mark = settings.mark;
+    if !list_soundness::is_sound(even, limit, mark) {
         return false;
     }
-    if !list_soundness::is_sound(odd, limit) {
+    if !list_soundness::is_sound(odd, limit, mark) {
         return false;
     }
     rate_sound(clock.rate, settings.rate_limit())

@@ -38,7 +38,7 @@ use Rattle.clock.specs.declared.state.Clock.{Clock}
 use Rattle.base_types.specs.Cycle.{isOdd}
 use Rattle.clock.specs.State.{isThere, cycleIn, isCycle, fresh, currentCycle, listOf}
 use Rattle.clock.specs.Opening.{openingRefusals, keepsEven, evenAfter, openedOn}
-use Rattle.clock.proofs.SoundLaws.{clauses, at-most, count-within}
+use Rattle.clock.proofs.SoundLaws.{clauses, at-most, list-clauses}
 use Rattle.measuring.specs.Measuring.{frameOf, noSyncFrame, deviationWith, measurementWith, deviationBy, measurementBy, measuredOn}
 use Rattle.measuring.specs.Measuring as measuring
 use Rattle.closing.specs.Closing.{closingRefusals, offsetFound, storedTerm, rateFound, reportWith, reportOf, closedOn}
@@ -169,7 +169,7 @@ module _ (s : Since) (c : Clock) (f : Follows s c) where
   limit-small : syncIdLimit (c .settings) ≤ rowCount
   limit-small = at-most (c .settings) (clauses c (f .holds .good) .settings) 4 (lit< tt)
 
-  list-good : listSound (syncIdLimit (c .settings)) (listOf (currentCycle c) c) ≡ true
+  list-good : listSound (syncIdLimit (c .settings)) (c .settings .mark) (listOf (currentCycle c) c) ≡ true
   list-good = list-of-sound c (currentCycle c) (f .holds .good)
 
   list-typed : TypedList (listOf (currentCycle c) c)
@@ -221,14 +221,15 @@ module _ (s : Since) (c : Clock) (f : Follows s c) where
     number-open there =
         let id = frameOf status .id in
         let limit = syncIdLimit (c .settings) in
+        let mark = c .settings .mark in
         let l = listOf (currentCycle c) c in
         let p = list-holds there in
         let p23 = ap (λ (b : Bool). not (b && slot.sound status)) (f .holds .good) in
         let p18 = ap (λ (o : CycleOrNone). not (isThere o)) (f .holds .opened) in
         let p22 = ap (λ (n : Cycle). not (eqb (frameOf status .cycle .0) (n .0))) now-is in
-        let p16 = list-taken limit l list-typed limit-small list-good id (status .channel) ∙ taken-permuted (id .0) (status .channel) p in
+        let p16 = list-taken limit mark l list-typed limit-small list-good id (status .channel) ∙ taken-permuted (id .0) (status .channel) p in
         let p15 =
-        list-full limit l list-typed limit-small list-good (c .settings) refl id
+        list-full limit mark l list-typed limit-small list-good (c .settings) refl id
         ∙ full-permuted (c .settings) (id .0) p
         ∙ ap (λ (k : Settings). isFull k (id .0) (ofCurrent s)) (f .holds .settings) in
         λ i.
@@ -278,8 +279,8 @@ module _ (s : Since) (c : Clock) (f : Follows s c) where
           let passed = not-refused ours refl zero in
           let l = listOf (currentCycle c) c in
           recorded-permuted l (frameOf status .id) (status .channel) m list-typed
-          (le-trans (count-within (syncIdLimit (c .settings)) l list-good) limit-small) (passed 16)
-          (has-place (syncIdLimit (c .settings)) l (frameOf status .id) list-typed limit-small list-good (passed 15))
+          (le-trans (list-clauses (syncIdLimit (c .settings)) (c .settings .mark) l list-good .few) limit-small) (passed 16)
+          (has-place (syncIdLimit (c .settings)) (c .settings .mark) l (frameOf status .id) list-typed limit-small list-good (passed 15))
 
       parity : {o : Bool} → isOdd (currentCycle c) ≡ o → odd (current s .0) ≡ o
       parity e = ap isOdd (sym now-is) ∙ e

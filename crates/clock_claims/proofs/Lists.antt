@@ -1,11 +1,10 @@
 -- A list is sound exactly when the measurements that it stands for, and its rows, are as they should be.
 use Prim.Native.Nat.{ℕ, _≤_}
 use mathlib.Core.Path.{_≡_, refl, sym, ap, subst, _∙_}
-use mathlib.Core.Bool.{true, false, false≢true, not, _||_}
+use mathlib.Core.Bool.{Bool, true, false, false≢true, not, _||_}
 use mathlib.Core.List.{List, [], _∷_, _++_, List·Memᴰ, List·Memᴰ·head, List·Memᴰ·tail, List·Memᴰ·cases-cons, List·Memᴰ·not-nil}
 use native.Mathlib.Omega.{arith}
-use borrow.Author.Tests.{le-leb, not-true}
-use lib.Dec.{leb}
+use borrow.Author.Tests.{eq-eqb, eqb-true, not-true}
 use lib.ListN.{length, length-map}
 use lib.Seq.{length-take-le}
 use lib.Signed.{leZ}
@@ -14,6 +13,7 @@ use Rattle.numbers.proofs.Walk.{cases, came}
 use Rattle.base_types.specs.declared.channel.Channel.{Channel}
 use Rattle.base_types.specs.declared.channel.Channel.the-variants.{A, B}
 use Rattle.base_types.specs.Slot.{notAnId}
+use Rattle.settings.specs.declared.Mark.{Mark}
 use Rattle.base_types.specs.Microtick.{lowestDeviation, highestDeviation}
 use Rattle.sync_list.specs.declared.row.Measured.{Measured}
 use Rattle.sync_list.specs.declared.row.Measured.the-variants.{Nothing, Is}
@@ -21,13 +21,13 @@ use Rattle.sync_list.specs.declared.row.Row.{Row}
 use Rattle.sync_list.specs.declared.list.SyncList.{SyncList}
 use Rattle.sync_list.specs.Rows.{isMeasured, on}
 use Rattle.sync_list.specs.Lists.{rowCount, listed, idOf, idsOf, isAmong, noneTwice}
-use Rattle.list_soundness.specs.Sound.{isInRange, rowSound, rowsSound, listSound}
+use Rattle.list_soundness.specs.Sound.{isInRange, rowSound, eachRow, rowsSound, carries, rowMarked, allMarked, listSound}
 use Rattle.measurements.specs.Measurements.{Taken, taken, standsFor, sameChannel}
 use Rattle.base_types.proofs.SlotLaws.{id-range}
 use Rattle.list_soundness.proofs.RangedLaws.{Ranged, row-ranged}
 use Rattle.sync_list.proofs.AmongLaws.{none-twice}
 use Rattle.measurements.proofs.RowLaws.{row-measured, rows-ids}
-use Rattle.clock.proofs.SoundLaws.{count-within, rows-good, ids-different}
+use Rattle.clock.proofs.SoundLaws.{list-clauses, list-sound-by}
 use Rattle.clock_claims.specs.Typed.{TypedList}
 use Rattle.clock_claims.specs.Sound.{IsId, IsDeviation, OncePerChannel, GoodList, DifferentRows, GoodRows}
 use Rattle.clock_claims.proofs.TakenLaws.{list-count}
@@ -35,12 +35,20 @@ use Rattle.clock_claims.proofs.Members.{Has, members, has-member, among
 
 -- ---- from the rows to what they stand for
 
-row-good : (rows : List Row) (row : Row) → rowsSound rows ≡ true → List·Memᴰ row rows → rowSound row ≡ true
-unfolding rowsSound
-row-good [] row s mem = absurd (List·Memᴰ·not-nil mem)
-row-good (r ∷ rows) row s mem =
-    let both = both-true (rowSound r) (rowsSound rows) s in
-    came (List·Memᴰ·cases-cons mem) (λ q. ap rowSound q ∙ both .0) (row-good rows row (both .1))
+module _ (asked : Row → Bool) where
+  -- each row is as asked, and each row that is among them
+  each-member : (rows : List Row) (row : Row) → eachRow asked rows ≡ true → List·Memᴰ row rows → asked row ≡ true
+  unfolding eachRow
+  each-member [] row s mem = absurd (List·Memᴰ·not-nil mem)
+  each-member (r ∷ rows) row s mem =
+      let both = both-true (asked r) (eachRow asked rows) s in
+      came (List·Memᴰ·cases-cons mem) (λ q. ap asked q ∙ both .0) (each-member rows row (both .1))
+
+  each-by : (rows : List Row) → ((row : Row) → List·Memᴰ row rows → asked row ≡ true) → eachRow asked rows ≡ true
+  unfolding eachRow
+  each-by [] all = refl
+  each-by (row ∷ rows) all =
+      true-both (asked row) (eachRow asked rows) (all row (List·Memᴰ·head refl)) (each-by rows (λ r mem. all r (List·Memᴰ·tail mem)))
 
 on-ranged : (row : Row) (channel : Channel) → Ranged row → isInRange (on channel row) ≡ true
 on-ranged row A r = r .on-a
@@ -52,22 +60,43 @@ has-ranged row m e h =
     (sym (ap isInRange (h .there)) ∙ on-ranged row (m .channel) (row-ranged row e))
 
 module _ (rows : List Row) (s : rowsSound rows ≡ true) where
+  row-good : (row : Row) → List·Memᴰ row rows → rowSound row ≡ true
+  row-good row = each-member rowSound rows row s
+
   taken-ids : (m : Taken) → List·Memᴰ m (standsFor rows) → IsId (m .id)
   taken-ids m mem =
       let h = members rows m mem in
       let id = idOf (h .row) in
-      let range = id-range id .0 (not-true _ (both-true (not (notAnId id)) _ (row-good rows (h .row) s (h .among)) .0)) in
+      let range = id-range id .0 (not-true _ (both-true (not (notAnId id)) _ (row-good (h .row) (h .among)) .0)) in
       subst IsId (sym (h .has .id)) (omega (arith, range .0), omega (arith, range .1))
 
   taken-ranged : (m : Taken) → List·Memᴰ m (standsFor rows) → IsDeviation (m .measurement .deviation .0)
   taken-ranged m mem =
       let h = members rows m mem in
-      has-ranged (h .row) m (row-good rows (h .row) s (h .among)) (h .has)
+      has-ranged (h .row) m (row-good (h .row) (h .among)) (h .has)
 
   all-measured : (row : Row) → List·Memᴰ row rows → row .«on_a» ≡ Nothing → row .«on_b» ≡ Nothing → ⊥
   all-measured row mem ea eb =
-      let there = row-measured row (row-good rows row s mem) in
+      let there = row-measured row (row-good row mem) in
       false≢true (sym (ap (λ (x : Measured). isMeasured x || isMeasured (row .«on_b»)) ea ∙ ap isMeasured eb) ∙ there)
+
+-- what a row has on a channel carries the mark
+module _ (mark : Mark) where
+  on-marked : (row : Row) (channel : Channel) → rowMarked mark row ≡ true → carries mark (on channel row) ≡ true
+  on-marked row A e = both-true (carries mark (row .«on_a»)) _ e .0
+  on-marked row B e = both-true (carries mark (row .«on_a»)) _ e .1
+
+  pub taken-marked : (rows : List Row) → allMarked mark rows ≡ true → (m : Taken) → List·Memᴰ m (standsFor rows) → m .measurement .mark ≡ mark
+  taken-marked rows s m mem =
+      let h = members rows m mem in
+      let there = on-marked (h .row) (m .channel) (each-member (rowMarked mark) rows (h .row) s (h .among)) in
+      ap (λ (n : ℕ). record { 0 = n }) (eqb-true (m .measurement .mark .0) (mark .0) (sym (ap (carries mark) (h .has .there)) ∙ there))
+
+  marked-on : (row : Row) (channel : Channel) (x : Measured) → on channel row ≡ x → ((m : Taken) → Has row m → m .measurement .mark ≡ mark) → carries mark x ≡ true
+  marked-on row channel Nothing e all = refl
+  marked-on row channel (Is d) e all =
+      eq-eqb (d .mark .0) (mark .0)
+      (ap (λ (x : Mark). x .0) (all (record { id = idOf row; channel = channel; measurement = d }) (record { id = refl; there = e })))
 
 -- no later measurement has the ID of a row that does not stand again
 once-row : (row : Row) (rows : List Row) → isAmong (idOf row) (idsOf rows) ≡ false → OncePerChannel (standsFor rows)
@@ -149,38 +178,40 @@ row-sound-by row measured ids ranged =
     (true-both (isMeasured (row .«on_a») || isMeasured (row .«on_b»)) _ one
     (true-both (isInRange (row .«on_a»)) (isInRange (row .«on_b»)) (ranged-on row A (row .«on_a») refl ranged) (ranged-on row B (row .«on_b») refl ranged)))
 
-rows-sound-by : (rows : List Row) → ((row : Row) → List·Memᴰ row rows → rowSound row ≡ true) → rowsSound rows ≡ true
-unfolding rowsSound
-rows-sound-by [] all = refl
-rows-sound-by (row ∷ rows) all =
-    true-both (rowSound row) (rowsSound rows) (all row (List·Memᴰ·head refl)) (rows-sound-by rows (λ r mem. all r (List·Memᴰ·tail mem)))
-
 -- ---- the list
 
-module _ (limit : ℕ) (l : SyncList) (typed : TypedList l) where
-  pub list-good : limit ≤ rowCount → listSound limit l ≡ true → GoodList limit (standsFor (listed l)) × GoodRows l
+module _ (limit : ℕ) (mark : Mark) (l : SyncList) (typed : TypedList l) where
+  pub list-good : limit ≤ rowCount → listSound limit mark l ≡ true → GoodList limit mark (standsFor (listed l)) × GoodRows l
   list-good small e =
-      let few = count-within limit l e in
-      let s = rows-good limit l e in
-      let n = ids-different limit l e in (
+      let k = list-clauses limit mark l e in
+      let few = k .few in (
         record {
-          few = subst (λ (k : ℕ). k ≤ limit) (list-count limit l typed small e) few;
-          ids = taken-ids (listed l) s;
-          once = taken-once (listed l) n;
-          ranged = taken-ranged (listed l) s;
+          few = subst (λ (n : ℕ). n ≤ limit) (list-count limit mark l typed small e) few;
+          ids = taken-ids (listed l) (k .rows);
+          once = taken-once (listed l) (k .ids);
+          ranged = taken-ranged (listed l) (k .rows);
+          marked = taken-marked mark (listed l) (k .marks);
         },
-        record { counted = omega arith; measured = all-measured (listed l) s; different = rows-different (listed l) n },
+        record { counted = omega arith; measured = all-measured (listed l) (k .rows); different = rows-different (listed l) (k .ids) },
       )
 
-  pub good-list : GoodList limit (standsFor (listed l)) → GoodRows l → listSound limit l ≡ true
+  pub good-list : GoodList limit mark (standsFor (listed l)) → GoodRows l → listSound limit mark l ≡ true
   good-list g r =
       let rows = listed l in
       let s : rowsSound rows ≡ true =
-      rows-sound-by rows
+      each-by rowSound rows
       (λ row mem.
       row-sound-by row (r .measured row mem) (λ m h. g .ids m (has-member rows row m mem h)) (λ m h. g .ranged m (has-member rows row m mem h))) in
       let n : noneTwice (idsOf rows) ≡ true = different-none-twice rows (r .different) in
       let long : length rows ≡ l .count = length-take-le (l .count) (l .rows) (subst (λ (k : ℕ). l .count ≤ k) (sym typed) (r .counted)) in
-      let few : l .count ≤ limit =
-      subst (λ (k : ℕ). k ≤ limit) (length-map rows idOf ∙ long) (subst (λ (ids : List ℕ). length ids ≤ limit) (rows-ids rows s n) (g .few)) in
-      true-both (leb (l .count) limit) _ (le-leb (l .count) limit few) (true-both (rowsSound rows) (noneTwice (idsOf rows)) s n)
+      list-sound-by limit mark l
+      (record {
+        few = subst (λ (k : ℕ). k ≤ limit) (length-map rows idOf ∙ long) (subst (λ (ids : List ℕ). length ids ≤ limit) (rows-ids rows s n) (g .few));
+        rows = s;
+        ids = n;
+        marks =
+            each-by (rowMarked mark) rows
+            (λ row mem.
+            let all : (m : Taken) → Has row m → m .measurement .mark ≡ mark = λ m h. g .marked m (has-member rows row m mem h) in
+            true-both (carries mark (row .«on_a»)) (carries mark (row .«on_b»)) (marked-on mark row A (row .«on_a») refl all) (marked-on mark row B (row .«on_b») refl all));
+      })

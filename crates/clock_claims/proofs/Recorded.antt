@@ -3,7 +3,7 @@ use Prim.Native.Nat.{ℕ, suc, _≤_, _<_}
 use mathlib.Core.Path.{_≡_, sym, ap, subst, _∙_}
 use mathlib.Core.Bool.{true, false, false≢true, not, cond}
 use native.Mathlib.Omega.{arith}
-use borrow.Author.Tests.{le-leb, leb-false, ltb-true, ltb-false, not-true}
+use borrow.Author.Tests.{leb-false, ltb-true, ltb-false, not-true}
 use lib.Dec.{leb, ltb}
 use lib.ListN.{length, length-set, set}
 use Rattle.numbers.proofs.Truth.{both-true, true-both}
@@ -19,22 +19,23 @@ use Rattle.slot.specs.Judging.{Place, placeOf, firstMiss, isPassed, isFrame, he
 use Rattle.slot.specs.Sound.{couldBeRead, keepsWell}
 use Rattle.slot.specs.Sound as slot
 use Rattle.slot.proofs.SoundLaws.{clauses as status-clauses}
+use Rattle.settings.specs.declared.Mark.{Mark}
 use Rattle.settings.specs.Sheet.{syncIdLimit}
 use Rattle.base_types.specs.Microtick.{isDeviation}
 use Rattle.sync_list.specs.declared.row.Measurement.{Measurement}
 use Rattle.sync_list.specs.declared.list.SyncList.{SyncList}
 use Rattle.sync_list.specs.Rows.{withMeasured}
-use Rattle.sync_list.specs.Lists.{rowCount, empty, listed, idsOf, isAmong, placeOf as listPlace, isFullFor, recorded, noneTwice, rowIn}
-use Rattle.list_soundness.specs.Sound.{listSound, rowsSound}
+use Rattle.sync_list.specs.Lists.{rowCount, empty, listed, idsOf, isAmong, placeOf as listPlace, isFullFor, recorded, rowIn}
+use Rattle.list_soundness.specs.Sound.{listSound, allMarked}
 use Rattle.sync_list.proofs.ListLaws.{ids-long, listed-few}
 use Rattle.sync_list.proofs.PlaceLaws.{among-place, place-most}
-use Rattle.measurements.proofs.AddingLaws.{recorded-count-known, recorded-count-new, recorded-once, recorded-sound}
+use Rattle.measurements.proofs.AddingLaws.{recorded-count-known, recorded-count-new, recorded-once, recorded-sound, recorded-marked}
 use Rattle.clock.specs.declared.state.Clock.{Clock}
 use Rattle.base_types.specs.Cycle.{isOdd}
 use Rattle.clock.specs.State.{listOf, withList}
 use Rattle.clock.specs.Opening.{keepsEven, evenAfter}
 use Rattle.clock.specs.Sound.{sound}
-use Rattle.clock.proofs.SoundLaws.{clauses, sound-by, count-within, rows-good, ids-different}
+use Rattle.clock.proofs.SoundLaws.{clauses, sound-by, list-clauses, list-sound-by}
 use Rattle.measuring.specs.Measuring.{frameOf}
 use Rattle.clock_claims.specs.Typed.{TypedList}
 
@@ -50,7 +51,7 @@ frame-id s e f = kept-id (placeOf s) (s .kept) (status-clauses s e .keeps) f
 
 -- ---- room
 
-module _ (limit : ℕ) (l : SyncList) (id : Slot) (typed : TypedList l) (small : limit ≤ rowCount) (good : listSound limit l ≡ true) (room : isFullFor limit id l ≡ false) where
+module _ (limit : ℕ) (mark : Mark) (l : SyncList) (id : Slot) (typed : TypedList l) (small : limit ≤ rowCount) (good : listSound limit mark l ≡ true) (room : isFullFor limit id l ≡ false) where
   -- the ID is listed, or one more is within the limit
   new-within : isAmong (id .0) (idsOf (listed l)) ≡ false → l .count < limit
   new-within new =
@@ -74,19 +75,24 @@ module _ (limit : ℕ) (l : SyncList) (id : Slot) (typed : TypedList l) (small :
           rw (ids-long l typed)
           (cases-in (λ b. cond b (l .count) rowCount ≤ l .count) (ltb (l .count) rowCount) (λ t. omega arith) (ltb-false (l .count) rowCount))
 
-  pub recorded-good : (channel : Channel) (m : Measurement) → notAnId (id .0) ≡ false → isDeviation (m .deviation .0) ≡ true
-      → listSound limit (recorded id channel m l) ≡ true
-  recorded-good channel m is-id ranged =
-      let few = count-within limit l good in
+  pub recorded-good : (channel : Channel) (m : Measurement) → m .mark ≡ mark → notAnId (id .0) ≡ false → isDeviation (m .deviation .0) ≡ true
+      → listSound limit mark (recorded id channel m l) ≡ true
+  recorded-good channel m own is-id ranged =
+      let k = list-clauses limit mark l good in
+      let few = k .few in
       let c : l .count ≤ rowCount = omega arith in
-      let s = recorded-sound l id channel m typed c has-place (rows-good limit l good) is-id ranged in
-      let n = recorded-once l id channel m typed c has-place (ids-different limit l good) in
-      let count : recorded id channel m l .count ≤ limit =
-      cases (isAmong (id .0) (idsOf (listed l)))
-      (λ t. subst (λ (k : ℕ). k ≤ limit) (sym (recorded-count-known l id channel m typed c has-place t)) few)
-      (λ t. subst (λ (k : ℕ). k ≤ limit) (sym (recorded-count-new l id channel m typed c has-place t)) (new-within t)) in
-      true-both (leb (recorded id channel m l .count) limit) _ (le-leb (recorded id channel m l .count) limit count)
-      (true-both (rowsSound (listed (recorded id channel m l))) (noneTwice (idsOf (listed (recorded id channel m l)))) s n)
+      list-sound-by limit mark (recorded id channel m l)
+      (record {
+        few =
+            cases (isAmong (id .0) (idsOf (listed l)))
+            (λ t. subst (λ (n : ℕ). n ≤ limit) (sym (recorded-count-known l id channel m typed c has-place t)) few)
+            (λ t. subst (λ (n : ℕ). n ≤ limit) (sym (recorded-count-new l id channel m typed c has-place t)) (new-within t));
+        rows = recorded-sound l id channel m typed c has-place (k .rows) is-id ranged;
+        ids = recorded-once l id channel m typed c has-place (k .ids);
+        marks =
+            subst (λ (x : Mark). allMarked x (listed l) ≡ true → allMarked x (listed (recorded id channel m l)) ≡ true) own
+            (recorded-marked l id channel m typed c has-place) (k .marks);
+      })
 
 -- ---- the clock
 
@@ -108,7 +114,7 @@ of-even-after P c cycle kept none = cases-in (λ b. P (cond b (c .even) empty)) 
 
 module _ (c : Clock) (cycle : Cycle) (e : sound c ≡ true) where
   abbrev Good : SyncList → Type 0
-  Good l = listSound (syncIdLimit (c .settings)) l ≡ true
+  Good l = listSound (syncIdLimit (c .settings)) (c .settings .mark) l ≡ true
 
   pub list-of-sound : Good (listOf cycle c)
   list-of-sound = of-list Good c cycle (clauses c e .even) (clauses c e .odd)

@@ -24,7 +24,7 @@ use Rattle.clock.specs.declared.state.Clock.{Clock}
 use Rattle.base_types.specs.Cycle.{isOdd}
 use Rattle.clock.specs.State.{currentCycle, listOf}
 use Rattle.clock.specs.Sound.{sound}
-use Rattle.clock.proofs.SoundLaws.{clauses, at-most, rows-good, ids-different}
+use Rattle.clock.proofs.SoundLaws.{clauses, at-most, list-clauses}
 use Rattle.closing.specs.Closing as closing
 use Rattle.closing.specs.Closing.{closingRefusals, storedTerm, offsetFound, rateFound, reportWith, reportOf, noReport}
 use Rattle.clock_claims.specs.Typed.{TypedList}
@@ -37,17 +37,16 @@ module _ (c : Clock) (good : sound c ≡ true) where
   pub count-over : TypedList (listOf (currentCycle c) c) → (ms : List Taken) → Permuted (standsFor (listed (listOf (currentCycle c) c))) ms
       → listOf (currentCycle c) c .count ≡ length (differentIds ms)
   count-over typed ms p =
-      list-count (syncIdLimit (c .settings)) (listOf (currentCycle c) c) typed (at-most (c .settings) (clauses c good .settings) 4 (lit< tt)) (list-of-sound c (currentCycle c) good)
+      list-count (syncIdLimit (c .settings)) (c .settings .mark) (listOf (currentCycle c) c) typed (at-most (c .settings) (clauses c good .settings) 4 (lit< tt)) (list-of-sound c (currentCycle c) good)
       ∙ permuted-length (ids-permuted p)
 
   pub offset-over : (ms : List Taken) → Permuted (standsFor (listed (listOf (currentCycle c) c))) ms
       → offsetFound c ≡ offsetTerm (offsetValuesOf ms) (c .settings .«sends_sync») (offsetLimit (c .settings))
   offset-over ms p =
       let l = listOf (currentCycle c) c in
-      let limit = syncIdLimit (c .settings) in
-      let list-good = list-of-sound c (currentCycle c) good in
+      let k = list-clauses (syncIdLimit (c .settings)) (c .settings .mark) l (list-of-sound c (currentCycle c) good) in
       ap (λ (v : List ℤ). offsetTerm v (c .settings .«sends_sync») (offsetLimit (c .settings)))
-      (sym (rows-offset (listed l) (rows-good limit l list-good) (ids-different limit l list-good)))
+      (sym (rows-offset (listed l) (k .rows) (k .ids)))
       ∙ offset-permuted p (c .settings .«sends_sync») (offsetLimit (c .settings))
 
   abbrev rateBy : List ℤ → Term
@@ -58,18 +57,15 @@ module _ (c : Clock) (good : sound c ≡ true) where
       → (before : List Taken) → (isOdd (currentCycle c) ≡ true → Permuted (standsFor (listed (c .even))) before)
       → rateFound c ≡ cond (isOdd (currentCycle c)) (rateBy (rateValuesOf ms before)) (storedTerm (c .rate .0))
   rate-over ms p before q =
-      let limit = syncIdLimit (c .settings) in
       let stored = storedTerm (c .rate .0) in
       cases-in (λ b. cond b (rateBy (rateValues (listed (c .odd)) (listed (c .even)))) stored ≡ cond b (rateBy (rateValuesOf ms before)) stored)
       (isOdd (currentCycle c))
       (λ t.
-      let even-good = clauses c good .even in
-      let odd-good = clauses c good .odd in
+      let even-good = list-clauses (syncIdLimit (c .settings)) (c .settings .mark) (c .even) (clauses c good .even) in
+      let odd-good = list-clauses (syncIdLimit (c .settings)) (c .settings .mark) (c .odd) (clauses c good .odd) in
       let odd : Permuted (standsFor (listed (c .odd))) ms = subst (λ (k : Bool). Permuted (standsFor (listed (cond k (c .odd) (c .even)))) ms) t p in
       ap rateBy
-      (sym
-      (rows-rate (listed (c .odd)) (listed (c .even)) (rows-good limit (c .odd) odd-good) (ids-different limit (c .odd) odd-good)
-      (ids-different limit (c .even) even-good)))
+      (sym (rows-rate (listed (c .odd)) (listed (c .even)) (odd-good .rows) (odd-good .ids) (even-good .ids)))
       ∙ rate-permuted odd (q t) (c .settings .«sends_sync») (c .rate .0) (driftDamping (c .settings)) (rateLimit (c .settings)))
       (λ t. refl)
 

@@ -65,8 +65,8 @@ sound-exactly c typed = (
   λ e.
       let k = clauses c e in
       let small : syncIdLimit (c .settings) ≤ rowCount = at-most (c .settings) (k .settings) 4 (lit< tt) in
-      let even = list-good (syncIdLimit (c .settings)) (c .even) (typed .even) small (k .even) in
-      let odd = list-good (syncIdLimit (c .settings)) (c .odd) (typed .odd) small (k .odd) in
+      let even = list-good (syncIdLimit (c .settings)) (c .settings .mark) (c .even) (typed .even) small (k .even) in
+      let odd = list-good (syncIdLimit (c .settings)) (c .settings .mark) (c .odd) (typed .odd) small (k .odd) in
       record {
         settings = in-range (c .settings) (typed .settings) (k .settings);
         opened = cycle-good (c .opened) (k .opened);
@@ -83,8 +83,8 @@ sound-exactly c typed = (
         settings = range-in (c .settings) (typed .settings) (s .settings);
         opened = good-cycle (c .opened) (s .opened);
         last-closed = good-cycle (c .«last_closed») (s .lastClosed);
-        even = good-list (syncIdLimit (c .settings)) (c .even) (typed .even) (s .even) (s .evenRows);
-        odd = good-list (syncIdLimit (c .settings)) (c .odd) (typed .odd) (s .odd) (s .oddRows);
+        even = good-list (syncIdLimit (c .settings)) (c .settings .mark) (c .even) (typed .even) (s .even) (s .evenRows);
+        odd = good-list (syncIdLimit (c .settings)) (c .settings .mark) (c .odd) (typed .odd) (s .odd) (s .oddRows);
         rate = good-rate (c .rate) (rateLimit (c .settings)) (s .rate .0) (s .rate .1);
       }),
 )

@@ -11,6 +11,7 @@ use Rattle.refusal.specs.Refusal.{first, numbered}
 use Rattle.refusal.proofs.FirstLaws.{first-zero, if-accepted, not-refused}
 use Rattle.base_types.specs.declared.cycle.Cycle.{Cycle}
 use Rattle.base_types.specs.Cycle.{cycleTooHigh}
+use Rattle.settings.specs.declared.Mark.{Mark}
 use Rattle.settings.specs.declared.Settings.{Settings}
 use Rattle.settings.specs.Sheet.{outOfRange, syncIdLimit, rateLimit}
 use Rattle.slot.specs.declared.status.Status.{Status}
@@ -19,7 +20,7 @@ use Rattle.slot.specs.Sound as slot
 use Rattle.base_types.specs.declared.microtick.Microtick.{Microtick}
 use Rattle.base_types.specs.Microtick.{aboveTimeLimit}
 use Rattle.sync_list.specs.Lists.{empty, noneTwice, recorded}
-use Rattle.list_soundness.specs.Sound.{rowsSound, listSound}
+use Rattle.list_soundness.specs.Sound.{eachRow, listSound}
 use Rattle.clock.specs.declared.state.Clock.{Clock}
 use Rattle.clock.specs.declared.state.CycleOrNone.{CycleOrNone}
 use Rattle.clock.specs.declared.state.CycleOrNone.the-variants.{NoCycle, Is}
@@ -40,9 +41,9 @@ use Rattle.clock_claims.specs.Sound.{LoadedSound, OpenedSound, MeasuredS
 
 -- ---- loading
 
-empty-sound : (limit : ℕ) → listSound limit empty ≡ true
-unfolding rowsSound noneTwice
-empty-sound limit = true-both (leb 0 limit) true (le-leb 0 limit (omega arith)) refl
+empty-sound : (limit : ℕ) (mark : Mark) → listSound limit mark empty ≡ true
+unfolding eachRow noneTwice
+empty-sound limit mark = true-both (leb 0 limit) true (le-leb 0 limit (omega arith)) refl
 
 pub fresh-sound : (s : Settings) → outOfRange s ≡ false → sound (fresh s) ≡ true
 fresh-sound s e =
@@ -51,8 +52,8 @@ fresh-sound s e =
       settings = e;
       opened = refl;
       last-closed = refl;
-      even = empty-sound (syncIdLimit s);
-      odd = empty-sound (syncIdLimit s);
+      even = empty-sound (syncIdLimit s) (s .mark);
+      odd = empty-sound (syncIdLimit s) (s .mark);
       rate = ap not (near-inside (rateLimit s) (pos 0) (zero-near (rateLimit s)));
     })
 
@@ -71,8 +72,10 @@ opened-on-sound c cycle e low =
       settings = k .settings;
       opened = ap not low;
       last-closed = k .last-closed;
-      even = of-even-after (λ l. listSound (syncIdLimit (c .settings)) l ≡ true) c cycle (k .even) (empty-sound (syncIdLimit (c .settings)));
-      odd = empty-sound (syncIdLimit (c .settings));
+      even =
+          of-even-after (λ l. listSound (syncIdLimit (c .settings)) (c .settings .mark) l ≡ true) c cycle (k .even)
+          (empty-sound (syncIdLimit (c .settings)) (c .settings .mark));
+      odd = empty-sound (syncIdLimit (c .settings)) (c .settings .mark);
       rate = k .rate;
     })
 
@@ -99,8 +102,8 @@ module _ (c : Clock) (status : Status) (observed actionPoint : Microtick) (even 
       let l = listOf (currentCycle c) c in
       let m = measurementBy c status observed actionPoint in
       with-list-sound c (currentCycle c) (both .0) (recorded (frameOf status .id) (status .channel) m l)
-      (recorded-good (syncIdLimit (c .settings)) l (frameOf status .id) (of-list TypedList c (currentCycle c) even odd) (at-most (c .settings) (k .settings) 4 (lit< tt))
-      (list-of-sound c (currentCycle c) (both .0)) (passed 15) (status .channel) m
+      (recorded-good (syncIdLimit (c .settings)) (c .settings .mark) l (frameOf status .id) (of-list TypedList c (currentCycle c) even odd) (at-most (c .settings) (k .settings) 4 (lit< tt))
+      (list-of-sound c (currentCycle c) (both .0)) (passed 15) (status .channel) m refl
       (frame-id status (both .1) (has-frame status (passed 20)))
       (deviation-ranged c status observed actionPoint (k .settings) (times .0) (times .1)))
 

@@ -15,6 +15,7 @@ use Rattle.midpoint.proofs.OrderLaws.{permuted-length}
 use Rattle.base_types.specs.declared.channel.Channel.{Channel}
 use Rattle.base_types.specs.declared.channel.Channel.the-variants.{A, B}
 use Rattle.base_types.specs.declared.id.Slot.{Slot}
+use Rattle.settings.specs.declared.Mark.{Mark}
 use Rattle.settings.specs.declared.Settings.{Settings}
 use Rattle.settings.specs.Sheet.{syncIdLimit}
 use Rattle.correction.specs.declared.value.Value.{Value}
@@ -33,7 +34,7 @@ use Rattle.measurements.specs.Terms.{deviationsIf, smallest, deviationOn}
 use Rattle.measurements.proofs.OrderLaws.{ids-permuted, on-permuted}
 use Rattle.measurements.proofs.PermutedLaws.{fold-permuted}
 use Rattle.measurements.proofs.RowLaws.{rows-ids, row-deviations}
-use Rattle.clock.proofs.SoundLaws.{count-within, rows-good, ids-different}
+use Rattle.clock.proofs.SoundLaws.{ListClauses, list-clauses}
 use Rattle.clock_claims.specs.Typed.{TypedList}
 use Rattle.clock_claims.specs.History.{isTaken, isFull}
 
@@ -93,20 +94,23 @@ in-taken id channel rows n =
 
 -- ---- of a sound list
 
-module _ (limit : ℕ) (l : SyncList) (typed : TypedList l) (small : limit ≤ rowCount) (good : listSound limit l ≡ true) where
+module _ (limit : ℕ) (mark : Mark) (l : SyncList) (typed : TypedList l) (small : limit ≤ rowCount) (good : listSound limit mark l ≡ true) where
+  abbrev k : ListClauses limit mark l
+  k = list-clauses limit mark l good
+
   pub list-taken : (id : Slot) (channel : Channel) → isMeasuredOn id channel l ≡ isTaken (id .0) channel (standsFor (listed l))
-  list-taken id channel = in-taken id channel (listed l) (ids-different limit l good)
+  list-taken id channel = in-taken id channel (listed l) (k .ids)
 
   -- the count is the number of different IDs
   pub list-count : l .count ≡ length (differentIds (standsFor (listed l)))
   list-count =
-      let few = count-within limit l good in
+      let few = k .few in
       sym (length-take-le (l .count) (l .rows) (omega arith))
       ∙ sym (length-map (listed l) idOf)
-      ∙ sym (ap length (rows-ids (listed l) (rows-good limit l good) (ids-different limit l good)))
+      ∙ sym (ap length (rows-ids (listed l) (k .rows) (k .ids)))
 
   pub list-full : (settings : Settings) → syncIdLimit settings ≡ limit → (id : Slot) → isFullFor limit id l ≡ isFull settings (id .0) (standsFor (listed l))
   list-full settings e id =
       ap₂ (λ (n : ℕ) (ids : List ℕ). leb limit n && not (isAmong (id .0) ids)) list-count
-      (sym (rows-ids (listed l) (rows-good limit l good) (ids-different limit l good)))
-      ∙ ap (λ (k : ℕ). leb k (length (differentIds (standsFor (listed l)))) && not (isAmong (id .0) (differentIds (standsFor (listed l))))) (sym e)
+      (sym (rows-ids (listed l) (k .rows) (k .ids)))
+      ∙ ap (λ (n : ℕ). leb n (length (differentIds (standsFor (listed l)))) && not (isAmong (id .0) (differentIds (standsFor (listed l))))) (sym e)

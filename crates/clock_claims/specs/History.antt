@@ -51,7 +51,7 @@ pub data Answer : Type 0 where
 
 -- ---- what has happened
 
--- A measurement in use: its cycle, and what was taken in it.
+-- A measurement in use: its cycle, and what was taken in it, the mark with the deviation (C-17).
 pub record InUse : Type 0 where
   pub cycle : ℕ
   pub taken : Taken
@@ -117,7 +117,7 @@ isTaken id channel (m ∷ ms) = (eqb (m .id) id && sameChannel (m .channel) chan
 abbrev pub isFull : Settings → ℕ → List Taken → Bool
 isFull settings id ms = leb (syncIdLimit settings) (length (differentIds ms)) && not (isAmong id (differentIds ms))
 
--- The deviation and the measurement, by the settings that were loaded.
+-- The deviation and the measurement, its mark among it, by the settings that were loaded.
 abbrev pub deviationIn : Since → Status → Microtick → Microtick → ℤ
 deviationIn s = deviationWith (s .settings)
 

@@ -1,6 +1,7 @@
 -- Claims about soundness. 01: "A clock state is sound if its settings are in range, its cycles at most 63, each list holds at most field 4
 -- different IDs, each 1 to 2047 and once per channel, with deviations in their range, and the stored rate is within field 6", and
--- "Every accepted call returns a sound state." 01 speaks of a list of measurements; a list of ours has rows, and stands for one.
+-- "Every accepted call returns a sound state." 02, C-17: "all listed measurements carry the mark of the loaded settings; a state that breaks
+-- this isn't sound". 01 speaks of a list of measurements; a list of ours has rows, and stands for one.
 use Prim.Native.Nat.{ℕ, _≤_}
 use mathlib.Core.Path.{_≡_}
 use mathlib.Core.Bool.{true, false}
@@ -12,6 +13,7 @@ use lib.Signed.{leZ}
 use Rattle.base_types.specs.Cycle.{highestCycle}
 use Rattle.base_types.specs.Slot.{highestId}
 use Rattle.base_types.specs.declared.cycle.Cycle.{Cycle}
+use Rattle.settings.specs.declared.Mark.{Mark}
 use Rattle.settings.specs.declared.Settings.{Settings}
 use Rattle.settings.specs.Sheet.{syncIdLimit, rateLimit}
 use Rattle.slot.specs.declared.status.Status.{Status}
@@ -57,12 +59,13 @@ abbrev pub OncePerChannel : List Taken → Type 0
 OncePerChannel [] = Unit
 OncePerChannel (m ∷ ms) = ((n : Taken) → List·Memᴰ n ms → n .id ≡ m .id → n .channel ≡ m .channel → ⊥) × OncePerChannel ms
 
--- What 01 asks of a list, by the limit of field 4.
-pub record GoodList (limit : ℕ) (ms : List Taken) : Type 0 where
+-- What 01 and 02 ask of a list, by the limit of field 4 and the mark of the settings.
+pub record GoodList (limit : ℕ) (mark : Mark) (ms : List Taken) : Type 0 where
   pub few : length (differentIds ms) ≤ limit
   pub ids : (m : Taken) → List·Memᴰ m ms → IsId (m .id)
   pub once : OncePerChannel ms
   pub ranged : (m : Taken) → List·Memᴰ m ms → IsDeviation (m .measurement .deviation .0)
+  pub marked : (m : Taken) → List·Memᴰ m ms → m .measurement .mark ≡ mark
 
 -- ---- the rows that stand for it
 
@@ -84,13 +87,13 @@ pub record GoodRows (l : SyncList) : Type 0 where
 abbrev pub CycleAtMostHighest : CycleOrNone → Type 0
 CycleAtMostHighest c = (cycle : Cycle) → c ≡ Is cycle → cycle .0 ≤ highestCycle
 
--- 01's sentence in words.
+-- 01's sentence in words, with 02's.
 pub record SoundClock (c : Clock) : Type 0 where
   pub settings : AllInRange (c .settings)
   pub opened : CycleAtMostHighest (c .opened)
   pub lastClosed : CycleAtMostHighest (c .«last_closed»)
-  pub even : GoodList (syncIdLimit (c .settings)) (standsFor (listed (c .even)))
-  pub odd : GoodList (syncIdLimit (c .settings)) (standsFor (listed (c .odd)))
+  pub even : GoodList (syncIdLimit (c .settings)) (c .settings .mark) (standsFor (listed (c .even)))
+  pub odd : GoodList (syncIdLimit (c .settings)) (c .settings .mark) (standsFor (listed (c .odd)))
   pub rate : (leZ (negℤ (pos (rateLimit (c .settings)))) (c .rate .0) ≡ true) × (leZ (c .rate .0) (pos (rateLimit (c .settings))) ≡ true)
   pub evenRows : GoodRows (c .even)
   pub oddRows : GoodRows (c .odd)

@@ -27,7 +27,7 @@ use Rattle.clock.specs.declared.state.Clock.{Clock}
 use Rattle.base_types.specs.Cycle.{isOdd}
 use Rattle.clock.specs.State.{currentCycle, listOf}
 use Rattle.clock.specs.Sound.{sound}
-use Rattle.clock.proofs.SoundLaws.{clauses, highest, at-most, rows-good, not-outside}
+use Rattle.clock.proofs.SoundLaws.{clauses, highest, at-most, list-clauses, not-outside}
 use Rattle.closing.specs.Closing.{offsetFound, rateFound}
 
 -- ---- what is limited lies within its limit
@@ -86,8 +86,8 @@ module _ (clock : Clock) (good : sound clock ≡ true) where
   rate-is-whole =
       let s = clock .settings in
       let k = clauses clock good in
-      let even = rows-good (syncIdLimit s) (clock .even) (k .even) in
-      let odd = rows-good (syncIdLimit s) (clock .odd) (k .odd) in
+      let even = list-clauses (syncIdLimit s) (s .mark) (clock .even) (k .even) .rows in
+      let odd = list-clauses (syncIdLimit s) (s .mark) (clock .odd) (k .odd) .rows in
       let few = at-most s (k .settings) 6 (lit< tt) in
       ap (λ (values : List ℤ). rateTermBy held values (s .«sends_sync») (clock .rate .0) (driftDamping s) (rateLimit s))
       (rates-held (listed (clock .even)) even (listed (clock .odd)) odd)

@@ -6,7 +6,7 @@ use mathlib.Core.List.{List, [], _∷_}
 use lib.IntN.{ℤ, pos}
 use Rattle.refusal.specs.Refusal.{Line, _when_, first, ifAccepted}
 use Rattle.settings.specs.declared.Settings.{Settings}
-use Rattle.settings.specs.Sheet.{offsetLimit, rateLimit, driftDamping, externalOffsetUnit, externalRateUnit}
+use Rattle.settings.specs.Sheet.{offsetLimit, rateLimit, driftDamping, externalOffsetUnit, externalRateUnit, noMark}
 use Rattle.base_types.specs.declared.microtick.SignedMicrotick.{SignedMicrotick}
 use Rattle.correction.specs.declared.term.Term.{Term}
 use Rattle.correction.specs.Terms.{offsetTerm, rateTerm}
@@ -54,7 +54,7 @@ rateFound clock =
 -- ---- what is reported, and what stays
 
 -- "Closing returns both terms, four flags .. and how many different IDs were measured in the closed cycle". "Last, its control times its
--- external unit is added to each reported term".
+-- external unit is added to each reported term". C-17: "each closing report" carries the mark of the settings that it was worked out by.
 abbrev pub reportWith : Settings → Term → Term → ℕ → ℤ → ℤ → Report
 reportWith settings offset rate ids offsetControl rateControl =
     record {
@@ -65,6 +65,7 @@ reportWith settings offset rate ids offsetControl rateControl =
       «offset_limited» = offset .«is_limited»;
       «rate_limited» = rate .«is_limited»;
       ids = ids;
+      mark = settings .mark;
     }
 
 -- A sound list counts a row for each different ID.
@@ -98,6 +99,7 @@ noReport =
       «offset_limited» = false;
       «rate_limited» = false;
       ids = 0;
+      mark = noMark;
     }
 
 -- ---- the statement
@@ -114,12 +116,12 @@ told closing.NotSound = record { number = 23; report = noReport }
 told closing.NoCycleOpen = record { number = 18; report = noReport }
 told closing.NotAControl = record { number = 21; report = noReport }
 
+-- What is to be told where the first refusal is n, or 0 for none.
+abbrev pub toTell : Clock → ℤ → ℤ → ℕ → Told
+toTell clock offsetControl rateControl n = record { number = n; report = ifAccepted n (reportOf clock offsetControl rateControl) noReport }
+
 -- The answer's number is the refusal, and its report 01's. The clock state has the cycle closed, or, with a refusal, is the one
 -- handed in.
 pub record CloseSays (clock : Clock) (offsetControl rateControl : ℤ) (r : CycleClosed) : Type 0 where
-  pub answers : told (r .answer)
-      ≡ record {
-        number = first (closingRefusals clock offsetControl rateControl);
-        report = ifAccepted (first (closingRefusals clock offsetControl rateControl)) (reportOf clock offsetControl rateControl) noReport;
-      }
+  pub answers : told (r .answer) ≡ toTell clock offsetControl rateControl (first (closingRefusals clock offsetControl rateControl))
   pub leaves : r .clock ≡ ifAccepted (first (closingRefusals clock offsetControl rateControl)) (closedOn clock) clock

@@ -12,6 +12,7 @@ use clock::CycleOrNone;
 use correction::Control;
 use correction::NamedControl;
 use correction::Term;
+use settings::Mark;
 
 // What a closed cycle reports.
 pub struct Report {
@@ -23,6 +24,8 @@ pub struct Report {
     pub rate_limited: bool,
     // How many different IDs were measured.
     pub ids: usize,
+    // That of the settings by which all this was worked out.
+    pub mark: Mark,
 }
 
 // What closing answers: the report, or why the cycle is not closed.
@@ -67,6 +70,7 @@ impl Report {
         offset_limited: false,
         rate_limited: false,
         ids: 0,
+        mark: Mark(0),
     };
 }
 
@@ -152,6 +156,7 @@ fn report_of(clock: Clock, rate: Term, offset_control: Control, rate_control: Co
     ensures { λ r. ⌜ r ≡ reportOf clock (signOf «offset_control») (signOf «rate_control») ⌝ }
 {
     let settings = clock.settings;
+    let mark = settings.mark;
     let list = clock.list_of(clock.current_cycle());
     let offset = offset_found(clock);
     let offset_value = offset.value;
@@ -174,6 +179,7 @@ fn report_of(clock: Clock, rate: Term, offset_control: Control, rate_control: Co
         offset_limited: offset.is_limited,
         rate_limited: rate.is_limited,
         ids: list.count,
+        mark,
     }
 }
 

@@ -1,16 +1,15 @@
 -- The rows of a sound list: their deviations are in range.
-use Prim.Native.Nat.{ℕ, zero, suc}
 use mathlib.Core.Path.{_≡_, refl}
 use mathlib.Core.Bool.{true, not, _||_}
-use mathlib.Core.List.{List, [], _∷_}
-use lib.ListN.{getD}
+use mathlib.Core.List.{List}
 use Rattle.numbers.proofs.Truth.{both-true}
 use Rattle.base_types.specs.declared.id.Slot.{Slot}
 use Rattle.base_types.specs.Slot.{notAnId}
 use Rattle.sync_list.specs.declared.row.Row.{Row}
-use Rattle.sync_list.specs.Rows.{blank, isMeasured}
-use Rattle.sync_list.specs.Lists.{idOf, idsOf, placeAmong, rowIn}
+use Rattle.sync_list.specs.Rows.{isMeasured}
+use Rattle.sync_list.specs.Lists.{idOf, rowIn}
 use Rattle.list_soundness.specs.Sound.{isInRange, rowSound, rowsSound}
+use Rattle.list_soundness.proofs.EachLaws.{each-in}
 
 -- both channels' deviations of a row are in their range
 pub record Ranged (row : Row) : Type 0 where
@@ -24,12 +23,6 @@ row-ranged row e =
     let h₃ = both-true (isInRange (row .«on_a»)) (isInRange (row .«on_b»)) (h₂ .1) in
     record { on-a = h₃ .0; on-b = h₃ .1 }
 
-get-ranged : (rows : List Row) (i : ℕ) (d : Row) → rowsSound rows ≡ true → Ranged d → Ranged (getD rows i d)
-unfolding rowsSound
-get-ranged [] i d e r = r
-get-ranged (row ∷ rows) zero d e r = row-ranged row (both-true (rowSound row) (rowsSound rows) e .0)
-get-ranged (row ∷ rows) (suc i) d e r = get-ranged rows i d (both-true (rowSound row) (rowsSound rows) e .1) r
-
 -- the row of an ID, also where it is blank
 pub in-ranged : (rows : List Row) (id : Slot) → rowsSound rows ≡ true → Ranged (rowIn id rows)
-in-ranged rows id e = get-ranged rows (placeAmong (id .0) (idsOf rows)) (blank id) e (record { on-a = refl; on-b = refl })
+in-ranged rows id e = each-in rowSound Ranged row-ranged rows id e (record { on-a = refl; on-b = refl })

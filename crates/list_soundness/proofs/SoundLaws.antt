@@ -7,7 +7,7 @@ use native.Mathlib.Omega.{arith}
 use borrow.Author.Tests.{eq-eqb, ne-eqb, eqb-true, lt-ltb, le-ltb, ltb-false}
 use lib.Dec.{eqb, leb, ltb}
 use lib.ListN.{length, length-map, getD, take, drop}
-use Rattle.numbers.proofs.Truth.{both-true, true-both, true-left, true-right}
+use Rattle.numbers.proofs.Truth.{true-both, true-left, true-right}
 use Rattle.numbers.proofs.Walk.{cases}
 use Rattle.sync_list.specs.declared.row.Row.{Row}
 use Rattle.sync_list.specs.declared.list.SyncList.{SyncList}
@@ -15,44 +15,37 @@ use Rattle.sync_list.specs.Lists.{listed, idOf, idsOf, isAmong, noneTwice, plac
 use Rattle.sync_list.proofs.AmongLaws.{among-end, none-twice-end}
 use Rattle.sync_list.proofs.PlaceLaws.{among-first}
 use Rattle.sync_list.proofs.ListLaws.{noRow, row-between, row-passed}
-use Rattle.list_soundness.specs.Sound.{rowSound, rowsSound, listSound}
+use Rattle.settings.specs.declared.Mark.{Mark}
+use Rattle.list_soundness.specs.Sound.{rowSound, eachRow, rowsSound, rowMarked, allMarked, listSound}
+use Rattle.list_soundness.proofs.EachLaws.{each-end, not-each}
 
 -- ---- rows that are sound so far
 
-pub sound-end : (rows : List Row) (row : Row) → rowsSound rows ≡ true → rowSound row ≡ true → rowsSound (rows ++ (row ∷ [])) ≡ true
-unfolding rowsSound
-sound-end [] row s e = true-both (rowSound row) true e refl
-sound-end (first ∷ rows) row s e =
-    let h = both-true (rowSound first) (rowsSound rows) s in
-    true-both (rowSound first) (rowsSound (rows ++ (row ∷ []))) (h .0) (sound-end rows row (h .1) e)
-
--- each is sound, no ID stands twice, and one above the highest is not among them
-pub record SoundSoFar (highest : ℕ) (rows : List Row) : Type 0 where
+-- each is sound and carries the mark, no ID stands twice, and one above the highest is not among them
+pub record SoundSoFar (mark : Mark) (highest : ℕ) (rows : List Row) : Type 0 where
   pub each : rowsSound rows ≡ true
+  pub marked : allMarked mark rows ≡ true
   pub once : noneTwice (idsOf rows) ≡ true
   pub above : (id : ℕ) → highest < id → isAmong id (idsOf rows) ≡ false
 
-pub none-passed : SoundSoFar 0 []
-unfolding rowsSound noneTwice isAmong
-none-passed = record { each = refl; once = refl; above = λ id h. refl }
+pub none-passed : (mark : Mark) → SoundSoFar mark 0 []
+unfolding eachRow noneTwice isAmong
+none-passed mark = record { each = refl; marked = refl; once = refl; above = λ id h. refl }
 
-one-more : (highest next : ℕ) (rows : List Row) (row : Row) → SoundSoFar highest rows → rowSound row ≡ true → isAmong (idOf row) (idsOf rows) ≡ false
-    → highest ≤ next → idOf row ≤ next → SoundSoFar next (rows ++ (row ∷ []))
-one-more highest next rows row f s new up own =
+one-more : (mark : Mark) (highest next : ℕ) (rows : List Row) (row : Row) → SoundSoFar mark highest rows → rowSound row ≡ true
+    → rowMarked mark row ≡ true → isAmong (idOf row) (idsOf rows) ≡ false → highest ≤ next → idOf row ≤ next
+    → SoundSoFar mark next (rows ++ (row ∷ []))
+one-more mark highest next rows row f s m new up own =
     let ids : idsOf (rows ++ (row ∷ [])) ≡ idsOf rows ++ (idOf row ∷ []) = map-append idOf rows (row ∷ []) in
     record {
-      each = sound-end rows row (f .each) s;
+      each = each-end rowSound rows row (f .each) s;
+      marked = each-end (rowMarked mark) rows row (f .marked) m;
       once = rw ids (none-twice-end (idOf row) (idsOf rows) (f .once) new);
       above =
           λ id h. rw ids (among-end id (idOf row) (idsOf rows) (f .above id (omega arith)) (ne-eqb (idOf row) id (λ e. omega arith)));
     }
 
--- ---- rows that are not
-
-unsound-row : (rows : List Row) (row : Row) (later : List Row) → rowSound row ≡ false → rowsSound (rows ++ (row ∷ later)) ≡ false
-unfolding rowsSound
-unsound-row [] row later e = rw e
-unsound-row (first ∷ rows) row later e = ap (_&&_ (rowSound first)) (unsound-row rows row later e) ∙ and-false (rowSound first)
+-- ---- an ID that stands twice
 
 among-later : (id : ℕ) (ids later : List ℕ) → isAmong id (ids ++ (id ∷ later)) ≡ true
 unfolding isAmong
@@ -87,31 +80,36 @@ module _ (l : SyncList) (i : ℕ) (h : i < length (listed l)) where
   earlier =
       among-first (idOf row) i (idsOf (listed l)) (omega (arith, length-map (listed l) idOf)) ∙ ap (isAmong (idOf row)) (take-map idOf i (listed l))
 
-  -- the one law of the walk: above all earlier IDs, so not among them
-  pub new-above : (highest : ℕ) → SoundSoFar highest passed → highest < idOf row → i ≤ placeOf (row .id) l
-  new-above highest f g = ltb-false (placeOf (row .id) l) i (earlier ∙ f .above (idOf row) g)
+  module _ (mark : Mark) (highest : ℕ) (f : SoundSoFar mark highest passed) where
+    -- the one law of the walk: above all earlier IDs, so not among them
+    pub new-above : highest < idOf row → i ≤ placeOf (row .id) l
+    new-above g = ltb-false (placeOf (row .id) l) i (earlier ∙ f .above (idOf row) g)
 
-  pub row-fine : (highest next : ℕ) → SoundSoFar highest passed → rowSound row ≡ true → i ≤ placeOf (row .id) l → highest ≤ next → idOf row ≤ next
-      → SoundSoFar next (take (suc i) (listed l))
-  row-fine highest next f s new up own =
-      rw (row-passed l i h) (one-more highest next passed row f s (sym earlier ∙ le-ltb (placeOf (row .id) l) i new) up own)
+    pub row-fine : (next : ℕ) → rowSound row ≡ true → rowMarked mark row ≡ true → i ≤ placeOf (row .id) l → highest ≤ next → idOf row ≤ next
+        → SoundSoFar mark next (take (suc i) (listed l))
+    row-fine next s m new up own =
+        rw (row-passed l i h) (one-more mark highest next passed row f s m (sym earlier ∙ le-ltb (placeOf (row .id) l) i new) up own)
 
-  module _ (limit : ℕ) where
-    pub unsound-at : rowSound row ≡ false → listSound limit l ≡ false
-    unsound-at e =
-        let bad : rowsSound (listed l) ≡ false = sym (ap rowsSound (row-between l i h)) ∙ unsound-row passed row (drop (suc i) (listed l)) e in
-        ap (λ (b : Bool). leb (l .count) limit && (b && noneTwice (idsOf (listed l)))) bad ∙ and-false (leb (l .count) limit)
+  module _ (limit : ℕ) (mark : Mark) where
+    -- what is asked of each row does not hold of this one
+    bad-at : (asked : Row → Bool) → asked row ≡ false → eachRow asked (listed l) ≡ false
+    bad-at asked e = sym (ap (eachRow asked) (row-between l i h)) ∙ not-each asked passed row (drop (suc i) (listed l)) e
 
-    pub twice-at : placeOf (row .id) l < i → listSound limit l ≡ false
+    pub unsound-at : rowSound row ≡ false → listSound limit mark l ≡ false
+    unsound-at e = rw (bad-at rowSound e) (and-false (leb (l .count) limit))
+
+    pub unmarked-at : rowMarked mark row ≡ false → listSound limit mark l ≡ false
+    unmarked-at e = rw (bad-at (rowMarked mark) e, and-false (noneTwice (idsOf (listed l))), and-false (rowsSound (listed l))) (and-false (leb (l .count) limit))
+
+    pub twice-at : placeOf (row .id) l < i → listSound limit mark l ≡ false
     twice-at e =
         let twice : noneTwice (idsOf (listed l)) ≡ false =
         sym (ap (λ (rows : List Row). noneTwice (idsOf rows)) (row-between l i h))
         ∙ ap noneTwice (map-append idOf passed (row ∷ drop (suc i) (listed l)))
         ∙ id-twice (idOf row) (idsOf passed) (idsOf (drop (suc i) (listed l))) (sym earlier ∙ lt-ltb (placeOf (row .id) l) i e) in
-        ap (λ (b : Bool). leb (l .count) limit && (rowsSound (listed l) && b)) twice
-        ∙ ap (_&&_ (leb (l .count) limit)) (and-false (rowsSound (listed l)))
-        ∙ and-false (leb (l .count) limit)
+        rw (twice, and-false (rowsSound (listed l))) (and-false (leb (l .count) limit))
 
 -- no row is left
-pub all-passed : (l : SyncList) (limit highest : ℕ) → leb (l .count) limit ≡ true → SoundSoFar highest (listed l) → listSound limit l ≡ true
-all-passed l limit highest few f = true-both _ _ few (true-both _ _ (f .each) (f .once))
+pub all-passed : (l : SyncList) (limit : ℕ) (mark : Mark) (highest : ℕ) → leb (l .count) limit ≡ true → SoundSoFar mark highest (listed l)
+    → listSound limit mark l ≡ true
+all-passed l limit mark highest few f = true-both _ _ few (true-both _ _ (f .each) (true-both _ _ (f .once) (f .marked)))

@@ -1,11 +1,12 @@
 -- Which lists are sound (01, "Refusal numbers": "each list holds at most field 4 different IDs, each 1 to 2047 and once per channel,
--- with deviations in their range").
+-- with deviations in their range"; 02, C-17: "all listed measurements carry the mark of the loaded settings").
 use Prim.Native.Nat.{ℕ}
 use mathlib.Core.Bool.{Bool, true, not, _&&_, _||_}
 use mathlib.Core.List.{List, [], _∷_}
-use lib.Dec.{leb}
+use lib.Dec.{eqb, leb}
 use Rattle.base_types.specs.Slot.{notAnId}
 use Rattle.base_types.specs.Microtick.{isDeviation}
+use Rattle.settings.specs.declared.Mark.{Mark}
 use Rattle.sync_list.specs.declared.row.Measured.{Measured}
 use Rattle.sync_list.specs.declared.row.Measured.the-variants.{Nothing, Is}
 use Rattle.sync_list.specs.declared.row.Row.{Row}
@@ -24,10 +25,27 @@ rowSound row =
     not (notAnId (idOf row))
     && ((isMeasured (row .«on_a») || isMeasured (row .«on_b»)) && (isInRange (row .«on_a») && isInRange (row .«on_b»)))
 
-unfoldable pub rowsSound : List Row → Bool
-rowsSound [] = true
-rowsSound (row ∷ rows) = rowSound row && rowsSound rows
+-- Each of the rows is as asked.
+unfoldable pub eachRow : (Row → Bool) → List Row → Bool
+eachRow asked [] = true
+eachRow asked (row ∷ rows) = asked row && eachRow asked rows
 
--- At most `limit` rows, each one sound, and no ID in two of them: the rows then are the different IDs.
-abbrev pub listSound : ℕ → SyncList → Bool
-listSound limit l = leb (l .count) limit && (rowsSound (listed l) && noneTwice (idsOf (listed l)))
+abbrev pub rowsSound : List Row → Bool
+rowsSound rows = eachRow rowSound rows
+
+-- C-17: the measurement carries the mark. Where nothing was measured, nothing is asked.
+abbrev pub carries : Mark → Measured → Bool
+carries mark Nothing = true
+carries mark (Is m) = eqb (m .mark .0) (mark .0)
+
+-- On either channel.
+abbrev pub rowMarked : Mark → Row → Bool
+rowMarked mark row = carries mark (row .«on_a») && carries mark (row .«on_b»)
+
+abbrev pub allMarked : Mark → List Row → Bool
+allMarked mark rows = eachRow (rowMarked mark) rows
+
+-- At most `limit` rows, each one sound, and no ID in two of them: the rows then are the different IDs. All measurements carry the mark.
+abbrev pub listSound : ℕ → Mark → SyncList → Bool
+listSound limit mark l =
+    leb (l .count) limit && (rowsSound (listed l) && (noneTwice (idsOf (listed l)) && allMarked mark (listed l)))

@@ -4,15 +4,16 @@
 ghost use mathlib.Core.Path.{_≡_};
 ghost use mathlib.Core.Bool.{_||_};
 ghost use Rattle.sync_list.specs.Rows.{isMeasured};
-ghost use Rattle.list_soundness.specs.Sound.{isInRange, rowSound, listSound};
+ghost use Rattle.list_soundness.specs.Sound.{isInRange, rowSound, carries, rowMarked, listSound};
+use settings::Mark;
 use sync_list::Measured;
 use sync_list::Row;
 use sync_list::SyncList;
 
-// Whether it holds at most the limit of rows, each one right, and no ID twice. An ID above all earlier ones is not among them, so only
-// another is looked for; a list whose IDs rise needs no search.
-pub fn is_sound(list: SyncList, limit: u32) -> bool
-    ensures { λ r. ⌜ r ≡ listSound limit list ⌝ }
+// Whether it holds at most the limit of rows, each one right and with the mark, and no ID twice. An ID above all earlier ones is not among
+// them, so only another is looked for; a list whose IDs rise needs no search.
+pub fn is_sound(list: SyncList, limit: u32, mark: Mark) -> bool
+    ensures { λ r. ⌜ r ≡ listSound limit mark list ⌝ }
 {
     if (limit as usize) < list.count {
         return false;
@@ -23,6 +24,9 @@ pub fn is_sound(list: SyncList, limit: u32) -> bool
     while i < listed {
         let row = list.rows[i];
         if !row_sound(row) {
+            return false;
+        }
+        if !row_marked(row, mark) {
             return false;
         }
         if highest < row.id.0 {
@@ -76,4 +80,23 @@ fn is_in_range(measured: Measured) -> bool
         return true;
     };
     measurement.deviation.is_deviation()
+}
+
+// Whether what was measured of a row's ID carries the mark, on both channels.
+fn row_marked(row: Row, mark: Mark) -> bool
+    ensures { λ r. ⌜ r ≡ rowMarked mark row ⌝ }
+{
+    let on_a = row.on_a;
+    let on_b = row.on_b;
+    carries_mark(on_a, mark) & carries_mark(on_b, mark)
+}
+
+// Whether the measurement carries the mark. Where nothing was measured, nothing is asked.
+fn carries_mark(measured: Measured, mark: Mark) -> bool
+    ensures { λ r. ⌜ r ≡ carries mark measured ⌝ }
+{
+    let Measured::Is(measurement) = measured else {
+        return true;
+    };
+    measurement.mark.0 == mark.0
 }

@@ -21,7 +21,7 @@ use Rattle.sync_list.specs.declared.row.Measured.the-variants.{Nothing, Is}
 use Rattle.sync_list.specs.declared.row.Row.{Row}
 use Rattle.sync_list.specs.Rows.{valueOf, deviationsOf}
 use Rattle.sync_list.specs.Lists.{rowIn}
-use Rattle.list_soundness.specs.Sound.{isInRange, rowSound, rowsSound}
+use Rattle.list_soundness.specs.Sound.{isInRange, rowSound, eachRow, rowsSound}
 use Rattle.list_soundness.proofs.RangedLaws.{Ranged, row-ranged, in-ranged}
 use Rattle.list_values.specs.Values.{before, present, rateValues, rateValuesBy}
 
@@ -84,7 +84,7 @@ module _ (odd even : Row) (o : Ranged odd) (e : Ranged even) where
 
 module _ (even : List Row) (e : rowsSound even ≡ true) where
   pub rates-held : (odd : List Row) → rowsSound odd ≡ true → rateValuesBy held odd even ≡ rateValues odd even
-  unfolding rowsSound present
+  unfolding eachRow present
   rates-held [] o = refl
   rates-held (row ∷ rows) o =
       let h = both-true (rowSound row) (rowsSound rows) o in
@@ -97,7 +97,7 @@ module _ (even : List Row) (e : rowsSound even ≡ true) where
   near-before (value.Is x) numbers n w = more n w
 
   pub rates-near : (odd : List Row) → rowsSound odd ≡ true → Within spread (rateValues odd even)
-  unfolding rowsSound present
+  unfolding eachRow present
   rates-near [] o = none
   rates-near (row ∷ rows) o =
       let h = both-true (rowSound row) (rowsSound rows) o in

@@ -1,10 +1,11 @@
--- A measurement that is recorded is one measurement more, and leaves sound rows.
+-- A measurement that is recorded is one measurement more, and leaves rows that are sound and carry its mark.
 use mathlib.Core.Path.{_≡_, refl, sym, ap, _∙_}
-use mathlib.Core.Bool.{true, false, false≢true, not, _||_, or-true}
+use mathlib.Core.Bool.{Bool, true, false, false≢true, not, _||_, or-true}
 use mathlib.Core.List.{List, [], _∷_, _++_, map-append, List·Permᴰ·cons, List·Permᴰ·trans, Permᴰ·append-left, Permᴰ·middle}
 use Prim.Native.Nat.{ℕ, zero, suc, _≤_, _<_}
 use native.Mathlib.Omega.{arith}
-use borrow.Author.Tests.{ltb-true, ltb-false}
+use borrow.Author.Tests.{eq-eqb, ltb-true, ltb-false}
+use lib.Dec.{eqb}
 use lib.ListN.{List·getD-eq-default, getD, length, length-map, set}
 use lib.Seq.{length-take-le, take-set-lt, take-suc-set}
 use Rattle.numbers.proofs.Truth.{both-true, true-both}
@@ -23,11 +24,11 @@ use Rattle.sync_list.specs.declared.row.Row.{Row}
 use Rattle.sync_list.specs.declared.list.SyncList.{SyncList}
 use Rattle.sync_list.specs.Rows.{blank, isMeasured, on, withMeasured}
 use Rattle.sync_list.specs.Lists.{rowCount, listed, idOf, idsOf, isAmong, noneTwice, placeOf, rowIn, isMeasuredOn, recorded}
-use Rattle.list_soundness.specs.Sound.{isInRange, rowSound, rowsSound}
+use Rattle.list_soundness.specs.Sound.{isInRange, rowSound, eachRow, rowsSound, carries, rowMarked, allMarked}
 use Rattle.sync_list.proofs.ListLaws.{recorded-known, recorded-new}
 use Rattle.sync_list.proofs.PlaceLaws.{among-place, place-most}
 use Rattle.list_soundness.proofs.RangedLaws.{Ranged, in-ranged}
-use Rattle.list_soundness.proofs.SoundLaws.{sound-end}
+use Rattle.list_soundness.proofs.EachLaws.{each-end, each-set, each-in}
 use Rattle.measurements.specs.Measurements.{Taken, taken, standsFor}
 use Rattle.sync_list.proofs.AmongLaws.{none-twice-end}
 use Rattle.measurements.proofs.RowInLaws.{in-id}
@@ -83,15 +84,7 @@ module _ (m : Measurement) where
     end-more id (row ∷ rows) =
         behind-row row (one (id .0) channel) rows (rows ++ (withMeasured channel m (blank id) ∷ [])) (end-more id rows)
 
--- ---- sound rows
-
-sound-set : (rows : List Row) (p : ℕ) (row : Row) → rowsSound rows ≡ true → rowSound row ≡ true → rowsSound (set rows p row) ≡ true
-unfolding rowsSound
-sound-set [] p row s e = refl
-sound-set (first ∷ rows) zero row s e = true-both (rowSound row) (rowsSound rows) e (both-true (rowSound first) (rowsSound rows) s .1)
-sound-set (first ∷ rows) (suc p) row s e =
-    let h = both-true (rowSound first) (rowsSound rows) s in
-    true-both (rowSound first) (rowsSound (set rows p row)) (h .0) (sound-set rows p row (h .1) e)
+-- ---- a row that is measured
 
 ids-set : (rows : List Row) (p : ℕ) (row d : Row) → idOf row ≡ idOf (getD rows p d) → idsOf (set rows p row) ≡ idsOf rows
 ids-set [] p row d e = refl
@@ -110,6 +103,12 @@ measured-sound B m row i r e =
     true-both (not (notAnId (idOf row))) _ (ap not i)
     (true-both (isMeasured (row .«on_a») || true) _ (or-true (isMeasured (row .«on_a»)))
     (true-both (isInRange (row .«on_a»)) (isDeviation (m .deviation .0)) (r .on-a) e))
+
+measured-marked : (channel : Channel) (m : Measurement) (row : Row) → rowMarked (m .mark) row ≡ true → rowMarked (m .mark) (withMeasured channel m row) ≡ true
+measured-marked A m row e =
+    true-both (eqb (m .mark .0) (m .mark .0)) _ (eq-eqb (m .mark .0) (m .mark .0) refl) (both-true (carries (m .mark) (row .«on_a»)) _ e .1)
+measured-marked B m row e =
+    true-both (carries (m .mark) (row .«on_a»)) _ (both-true (carries (m .mark) (row .«on_a»)) _ e .0) (eq-eqb (m .mark .0) (m .mark .0) refl)
 
 -- ---- the list
 
@@ -162,14 +161,24 @@ module _ (l : SyncList) (id : Slot) (channel : Channel) (m : Measurement) (long 
         let e : idOf added ≡ id .0 = measured-id channel m (rowIn id (listed l)) ∙ in-id id (listed l) in
         rw (listed-new new, map-append idOf (listed l) (added ∷ []), e) (none-twice-end (id .0) (idsOf (listed l)) n new))
 
+    -- what is asked of each row holds of each again if it holds of the added one
+    recorded-each : (asked : Row → Bool) → eachRow asked (listed l) ≡ true → asked added ≡ true → eachRow asked (listed (recorded id channel m l)) ≡ true
+    recorded-each asked s e =
+        cases (isAmong (id .0) (idsOf (listed l)))
+        (λ known. rw (listed-known known) (each-set asked (listed l) (placeOf id l) added s e))
+        (λ new. rw (listed-new new) (each-end asked (listed l) added s e))
+
     pub recorded-sound : rowsSound (listed l) ≡ true → notAnId (id .0) ≡ false → isDeviation (m .deviation .0) ≡ true
         → rowsSound (listed (recorded id channel m l)) ≡ true
     recorded-sound s i d =
-        let e : rowSound added ≡ true =
-        measured-sound channel m (rowIn id (listed l)) (ap notAnId (in-id id (listed l)) ∙ i) (in-ranged (listed l) id s) d in
-        cases (isAmong (id .0) (idsOf (listed l)))
-        (λ known. rw (listed-known known) (sound-set (listed l) (placeOf id l) added s e))
-        (λ new. rw (listed-new new) (sound-end (listed l) added s e))
+        recorded-each rowSound s
+        (measured-sound channel m (rowIn id (listed l)) (ap notAnId (in-id id (listed l)) ∙ i) (in-ranged (listed l) id s) d)
+
+    pub recorded-marked : allMarked (m .mark) (listed l) ≡ true → allMarked (m .mark) (listed (recorded id channel m l)) ≡ true
+    recorded-marked s =
+        recorded-each (rowMarked (m .mark)) s
+        (measured-marked channel m (rowIn id (listed l))
+        (each-in (rowMarked (m .mark)) (λ row. rowMarked (m .mark) row ≡ true) (λ row e. e) (listed l) id s refl))
 
   pub recorded-permuted : isMeasuredOn id channel l ≡ false → placeOf id l < rowCount
       → Permuted (standsFor (listed (recorded id channel m l))) (record { id = id .0; channel = channel; measurement = m } ∷ standsFor (listed l))

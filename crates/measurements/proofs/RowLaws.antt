@@ -21,7 +21,7 @@ use Rattle.sync_list.specs.declared.row.Measured.the-variants.{Nothing, Is}
 use Rattle.sync_list.specs.declared.row.Row.{Row}
 use Rattle.sync_list.specs.Rows.{isMeasured, valueOf, deviationsOf}
 use Rattle.sync_list.specs.Lists.{idOf, idsOf, isAmong, noneTwice, rowIn}
-use Rattle.list_soundness.specs.Sound.{rowSound, rowsSound}
+use Rattle.list_soundness.specs.Sound.{rowSound, eachRow, rowsSound}
 use Rattle.list_values.specs.Values.{present, offsetValues, rateValues}
 use Rattle.measurements.specs.Measurements.{Taken, taken, standsFor, without, different, differentIds, sameChannel}
 use Rattle.measurements.specs.Terms.{deviationsIf, smallest, deviationOn, deviationsOn, offsetOf, offsetValuesOf, rateOf, rateValuesOf}
@@ -45,7 +45,7 @@ row-measured row e =
     both-true (isMeasured (row .«on_a») || isMeasured (row .«on_b»)) _ (both-true (not (notAnId (idOf row))) _ e .1) .0
 
 pub rows-ids : (rows : List Row) → rowsSound rows ≡ true → noneTwice (idsOf rows) ≡ true → differentIds (standsFor rows) ≡ idsOf rows
-unfolding standsFor rowsSound different
+unfolding standsFor eachRow different
 rows-ids [] s n = refl
 rows-ids (row ∷ rows) s n =
     let h = both-true (rowSound row) (rowsSound rows) s in

@@ -61,11 +61,11 @@ abbrev pub deviationWith : Settings → Status → Microtick → Microtick → �
 deviationWith settings status observed actionPoint =
     deviation (observed .0) (decodingCorrection settings) (delayOn (status .channel) settings) (actionPoint .0)
 
--- The measurement that is listed: here, and nowhere else, it is made. `hold` says how its deviation is held: whole, or as its type
--- holds it.
+-- The measurement that is listed: here, and nowhere else, it is made, with the mark of the settings (C-17). `hold` says how its deviation is
+-- held: whole, or as its type holds it.
 abbrev pub measurementWith : (ℤ → ℤ) → Settings → Status → Microtick → Microtick → Measurement
 measurementWith hold settings status observed actionPoint =
-    record { deviation = record { 0 = hold (deviationWith settings status observed actionPoint) } }
+    record { deviation = record { 0 = hold (deviationWith settings status observed actionPoint) }; mark = settings .mark }
 
 -- Both by the clock state's settings, "whatever settings the status was opened with".
 abbrev pub deviationBy : Clock → Status → Microtick → Microtick → ℤ

@@ -190,7 +190,7 @@ fn deviation_by(
     )
 }
 
-// The measurement that is listed, by the same.
+// The measurement that is listed, by the same; its mark is that of the clock's settings.
 fn measurement_by(
     clock: Clock,
     status: Status,
@@ -199,8 +199,11 @@ fn measurement_by(
 ) -> Measurement
     ensures { λ r. ⌜ r ≡ measurementWith held (clock .settings) status observed «action_point» ⌝ }
 {
+    let settings = clock.settings;
+    let mark = settings.mark;
     Measurement {
         deviation: deviation_by(clock, status, observed, action_point),
+        mark,
     }
 }
 

@@ -12,11 +12,12 @@ use clock::Clock;
 use closing::Closing;
 use header::Fields;
 use measuring::Measuring;
+use settings::Mark;
 use settings::Settings;
 use slot::Status;
 
 fn main() {
-    let clock = load(sheet(40, 44));
+    let clock = load(sheet(Mark(1), 40, 44));
     let clock = even_cycle(clock, Cycle(0));
     let clock = begin_odd_cycle(clock, Cycle(1));
     let clock = end_odd_cycle(clock, Cycle(1), -1, 1);
@@ -28,22 +29,23 @@ fn main() {
     say::text(b"If no other sheet is loaded:\n");
     end_odd_cycle(clock, cycle, 0, 0);
 
-    // Another harness, and so other delays. Loading takes no state, so nothing is left of what was measured with the old ones: no cycle
-    // is open; slot 1 is not among the IDs, or the offset would be -1; cycle 2 gives no rate, or it would be -4; and no rate is stored, or
-    // it would be -10.
+    // Another harness, and so other delays, on a sheet with another mark, which the report tells. Loading takes no state, so nothing is left
+    // of what was measured with the old ones: no cycle is open; slot 1 is not among the IDs, or the offset would be -1; cycle 2 gives no
+    // rate, or it would be -4; and no rate is stored, or it would be -10.
     say::text(b"If another is loaded here:\n");
-    let clock = load(sheet(30, 36));
+    let clock = load(sheet(Mark(2), 30, 36));
     let clock = receive(clock, cycle, Slot(2), Microtick(2_099), Microtick(2_091), 0);
     let clock = open_cycle(clock, cycle);
     end_odd_cycle(clock, cycle, 0, 0);
 }
 
 // Fields 1 to 11: decoding correction, delay A, delay B, sync ID limit, offset limit, rate limit, drift damping, external offset unit,
-// external rate unit, static payload words, static slots. This node sends no sync frame.
-fn sheet(delay_a: u32, delay_b: u32) -> Settings {
+// external rate unit, static payload words, static slots. This node sends no sync frame. The mark names the sheet.
+fn sheet(mark: Mark, delay_a: u32, delay_b: u32) -> Settings {
     Settings {
         fields: [56, delay_a, delay_b, 3, 8, 20, 2, 5, 3, 2, 8],
         sends_sync: false,
+        mark,
     }
 }
 
@@ -72,7 +74,7 @@ fn end_odd_cycle(clock: Clock, cycle: Cycle, offset_control: i32, rate_control: 
 fn load(settings: Settings) -> Clock {
     let loaded = clock::load(settings);
     let answer = loaded.answer;
-    say::text(b"sheet");
+    say::number(b"sheet ", settings.mark.0 as u64);
     say::told(b" loaded", answer.number());
     say::number(b": delay ", settings.delay_a() as u64);
     say::number(b" on A, ", settings.delay_b() as u64);
@@ -167,6 +169,7 @@ fn close_cycle(clock: Clock, cycle: Cycle, offset_control: i32, rate_control: i3
         say::text(b", rate");
         say::term(report.rate, report.rate_missing, report.rate_limited);
         say::number(b", IDs ", report.ids as u64);
+        say::number(b", by sheet ", report.mark.0 as u64);
     }
     say::text(b"\n");
     closed.clock

@@ -21,20 +21,26 @@ const EVEN: usize = RATE + 4;
 
 const ODD: usize = EVEN + lists::SIZE;
 
+const MARK: usize = ODD + lists::SIZE;
+
+const EVEN_PAIRS: usize = MARK + sheet::MARK_SIZE;
+
+const ODD_PAIRS: usize = EVEN_PAIRS + lists::PAIRS_SIZE;
+
 // How many bytes a clock state has.
-pub const SIZE: usize = ODD + lists::SIZE;
+pub const SIZE: usize = ODD_PAIRS + lists::PAIRS_SIZE;
 
 pub fn is_right(item: Item) -> bool {
     sheet::is_right(item) && item::is_switch(item[OPEN]) && item::is_switch(item[CLOSED])
 }
 
-// `K`: settings, open switch, cycle, closed switch, last, rate, even list, odd list.
+// `K`: settings, open switch, cycle, closed switch, last, rate, even list, odd list, mark, the marks of both lists.
 pub fn put(item: Item) -> Clock {
     line::write_words(b"clock put");
     Clock {
-        settings: sheet::of(item),
-        even: lists::of(item, EVEN),
-        odd: lists::of(item, ODD),
+        settings: sheet::of(item, MARK),
+        even: lists::of(item, EVEN, EVEN_PAIRS),
+        odd: lists::of(item, ODD, ODD_PAIRS),
         opened: cycle_behind(item[OPEN], item[OPEN + 1]),
         last_closed: cycle_behind(item[CLOSED], item[CLOSED + 1]),
         rate: SignedMicrotick(script::signed(item::long(item, RATE))),
@@ -49,7 +55,7 @@ fn cycle_behind(switch: u8, cycle: u8) -> CycleOrNone {
     CycleOrNone::Is(Cycle(cycle))
 }
 
-// `clock F1 .. F11 SENDS OPEN CYCLE CLOSED LAST RATE EVEN n (ID SEEN A B)*n ODD n (ID SEEN A B)*n`
+// `clock F1 .. F11 SENDS OPEN CYCLE CLOSED LAST RATE EVEN n (ID SEEN A B)*n ODD n (ID SEEN A B)*n MARK EVEN (A B)*n ODD (A B)*n`
 pub fn show(clock: Clock) {
     let opened = clock.opened;
     let last_closed = clock.last_closed;
@@ -64,6 +70,11 @@ pub fn show(clock: Clock) {
     let at = lists::put(&mut line, at, clock.even);
     let at = line::put(&mut line, at, b" ODD");
     let at = lists::put(&mut line, at, clock.odd);
+    let at = sheet::put_mark(&mut line, at, clock.settings);
+    let at = line::put(&mut line, at, b" EVEN");
+    let at = lists::put_pairs(&mut line, at, clock.even);
+    let at = line::put(&mut line, at, b" ODD");
+    let at = lists::put_pairs(&mut line, at, clock.odd);
     line::end(&mut line, at);
 }
 

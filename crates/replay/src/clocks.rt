@@ -15,6 +15,9 @@ use closing::Closing;
 use measuring::Measuring;
 use slot::Status;
 
+// The place of the mark in an item of `L`, behind the sheet.
+const MARK: usize = sheet::SIZE;
+
 // The places of an item of `M` and of `C`. An item of `O` is its cycle alone.
 const CYCLE: usize = 0;
 
@@ -27,6 +30,8 @@ const OFFSET_CONTROL: usize = 0;
 const RATE_CONTROL: usize = OFFSET_CONTROL + 1;
 
 // How many bytes they have.
+pub const LOAD_SIZE: usize = MARK + sheet::MARK_SIZE;
+
 pub const OPEN_SIZE: usize = CYCLE + 1;
 
 pub const MEASURE_SIZE: usize = ACTION_POINT + 4;
@@ -45,9 +50,9 @@ pub fn play(letter: u8, item: Item, clock: Clock, status: Status) -> Clock {
     }
 }
 
-// `L`: settings.
+// `L`: settings, mark.
 fn load(item: Item) -> Clock {
-    let loaded = clock::load(sheet::of(item));
+    let loaded = clock::load(sheet::of(item, MARK));
     let answer = loaded.answer;
     answer_loading(answer);
     loaded.clock
@@ -103,7 +108,7 @@ fn close_cycle(item: Item, clock: Clock) -> Clock {
     closed.clock
 }
 
-// `close N OFFSET RATE OM RM OL RL IDS`
+// `close N OFFSET RATE OM RM OL RL IDS MARK`
 fn answer_closing(answer: Closing) {
     let report = answer.report();
     let offset = report.offset;
@@ -114,6 +119,7 @@ fn answer_closing(answer: Closing) {
         report.offset_limited as u64,
         report.rate_limited as u64,
         report.ids as u64,
+        report.mark.0 as u64,
     ];
     let mut line = [0u8; line::ROOM];
     let at = line::put(&mut line, 0, b"close");

@@ -7,12 +7,13 @@ use wire_reader::Reader;
 // How many bytes the reader's memory has: the longest frame, and some that must stay as they are.
 pub const MEMORY: usize = 270;
 
+// (The memory stands first: the prover looks for its length field by field, and a clock state has many.)
 pub struct Held {
-    pub is_script_error: bool,
-    pub clock: Clock,
-    pub status: Status,
-    pub reader: Reader,
     pub memory: [u8; MEMORY],
+    pub is_script_error: bool,
+    pub reader: Reader,
+    pub status: Status,
+    pub clock: Clock,
 }
 
 impl Held {

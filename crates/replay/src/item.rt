@@ -42,7 +42,7 @@ fn size_behind(letter: u8) -> usize
         b'F' | b'R' => frames::CHANNEL_SIZE,
         b'W' => frames::WRITE_SIZE,
         b'E' => frames::ENCODE_SIZE,
-        b'L' => sheet::SIZE,
+        b'L' => clocks::LOAD_SIZE,
         b'O' => clocks::OPEN_SIZE,
         b'M' => clocks::MEASURE_SIZE,
         b'C' => clocks::CLOSE_SIZE,

@@ -5,8 +5,8 @@ ghost use Rattle.replay.specs.Items.{lineRoom};
 use base_types::SignedMicrotick;
 use libc::STDOUT_FILENO;
 
-// Room for every line. The longest is that of an encoding of 2,638 bits with 600 bytes of output: 1,215 characters.
-pub const ROOM: usize = 1300;
+// Room for every line. The longest is that of a clock state whose numbers have as many digits as they can: 1,810 characters.
+pub const ROOM: usize = 1900;
 
 // Writes a line of a word and numbers.
 pub fn write(word: &[u8], numbers: &[u64]) {

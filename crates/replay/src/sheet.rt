@@ -1,7 +1,10 @@
 // A settings sheet in a script, and in a line.
+ghost use Prim.Native.Nat.{_+_, _≤_};
+ghost use Rattle.replay.specs.Items.{markSize, itemRoom};
 use crate::item;
 use crate::item::Item;
 use crate::line;
+use settings::Mark;
 use settings::Settings;
 
 // How many bytes a field has.
@@ -10,15 +13,19 @@ const FIELD_SIZE: usize = 4;
 // The place of the switch, behind the fields.
 const SWITCH: usize = settings::FIELDS * FIELD_SIZE;
 
-// How many bytes a sheet has.
+// How many bytes a sheet has, and its mark, which stands at the end of an item.
 pub const SIZE: usize = SWITCH + 1;
+
+pub const MARK_SIZE: usize = 4;
 
 pub fn is_right(item: Item) -> bool {
     item::is_switch(item[SWITCH])
 }
 
-// The sheet at the front of an item.
-pub fn of(item: Item) -> Settings {
+// The sheet at the front of an item, whose mark stands at this place behind it.
+pub(crate) fn of(item: Item, mark: usize) -> Settings
+    requires { ⌜ mark + markSize ≤ itemRoom ⌝ }
+{
     let mut fields = [0u32; settings::FIELDS];
     let mut i = 0;
     while i < settings::FIELDS {
@@ -28,6 +35,7 @@ pub fn of(item: Item) -> Settings {
     Settings {
         fields,
         sends_sync: item[SWITCH] == 1,
+        mark: Mark(item::long(item, mark)),
     }
 }
 
@@ -41,4 +49,8 @@ pub fn put(line: &mut [u8; line::ROOM], at: usize, settings: Settings) -> usize 
         i += 1;
     }
     line::decimal(line, at, settings.sends_sync as u64)
+}
+
+pub fn put_mark(line: &mut [u8; line::ROOM], at: usize, settings: Settings) -> usize {
+    line::decimal(line, at, settings.mark.0 as u64)
 }

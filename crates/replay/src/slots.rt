@@ -20,8 +20,10 @@ const SLOT: usize = CHANNEL + 1;
 
 const CYCLE: usize = SLOT + 2;
 
+const MARK: usize = CYCLE + 1;
+
 // How many bytes it has.
-pub const SIZE: usize = CYCLE + 1;
+pub const SIZE: usize = MARK + sheet::MARK_SIZE;
 
 // Plays the command on a slot that has this letter and an item; any other leaves the slot status as it is.
 pub fn play(letter: u8, item: Item, status: Status) -> Status {
@@ -34,10 +36,11 @@ pub fn play(letter: u8, item: Item, status: Status) -> Status {
     }
 }
 
-// `S`: settings, channel, slot, cycle.
+// `S`: settings, channel, slot, cycle, mark.
 fn open_slot(item: Item) -> Status {
     let slot = Slot(item::number(item, SLOT));
-    let opened = slot::open_slot(sheet::of(item), item[CHANNEL], slot, Cycle(item[CYCLE]));
+    let settings = sheet::of(item, MARK);
+    let opened = slot::open_slot(settings, item[CHANNEL], slot, Cycle(item[CYCLE]));
     let answer = opened.answer;
     answer_opening(answer);
     opened.status

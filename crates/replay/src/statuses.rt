@@ -37,8 +37,11 @@ const CHECKSUM: usize = WORDS + 1;
 
 const KEPT_CYCLE: usize = CHECKSUM + 2;
 
+// The sheet's mark, and not the status's own, which are flags.
+const MARK: usize = KEPT_CYCLE + 1;
+
 // How many bytes a status has.
-pub const SIZE: usize = KEPT_CYCLE + 1;
+pub const SIZE: usize = MARK + sheet::MARK_SIZE;
 
 pub fn is_right(item: Item) -> bool {
     sheet::is_right(item)
@@ -47,12 +50,13 @@ pub fn is_right(item: Item) -> bool {
         && item::is_switch(item[KEPT])
 }
 
-// `T`: settings, channel switch, slot, cycle, marks, reason, kept switch, and the kept frame's flags, ID, words, checksum and cycle.
+// `T`: settings, channel switch, slot, cycle, marks, reason, kept switch, the kept frame's flags, ID, words, checksum and cycle, and the
+// sheet's mark.
 pub fn put(item: Item) -> Status {
     line::write_words(b"status put");
     let marks = item[MARKS];
     Status {
-        settings: sheet::of(item),
+        settings: sheet::of(item, MARK),
         channel: channel_of(item[CHANNEL]),
         slot: Slot(item::number(item, SLOT)),
         cycle: Cycle(item[CYCLE]),
@@ -108,7 +112,7 @@ fn kept_of(item: Item) -> Kept {
     })
 }
 
-// `status F1 .. F11 SENDS CHANNEL SLOT CYCLE MARKS REASON KEPT FLAGS ID WORDS CHECKSUM CYCLE`
+// `status F1 .. F11 SENDS CHANNEL SLOT CYCLE MARKS REASON KEPT FLAGS ID WORDS CHECKSUM CYCLE MARK`
 pub fn show(status: Status) {
     let channel = status.channel;
     let reason = status.reason;
@@ -125,6 +129,7 @@ pub fn show(status: Status) {
     let at = sheet::put(&mut line, at, status.settings);
     let at = line::decimals(&mut line, at, &numbers);
     let at = put_kept(&mut line, at, kept);
+    let at = sheet::put_mark(&mut line, at, status.settings);
     line::end(&mut line, at);
 }
 

@@ -1,10 +1,12 @@
--- The settings sheet (01, "Settings sheet"): the fields by their names, the range of each, and the first field out of its range.
+-- The settings sheet (01, "Settings sheet"): the fields by their names, the range of each, and the first field out of its range. The mark
+-- of a sheet (02, C-17) is no field: it has no range.
 use Prim.Native.Nat.{ℕ, suc, _-_}
 use mathlib.Core.Bool.{Bool, false, not, _&&_, cond}
 use mathlib.Core.List.{List, [], _∷_}
 use lib.Dec.{leb, eqb}
 use lib.ListN.{getD, replicate}
 use Rattle.settings.specs.declared.Range.{Range}
+use Rattle.settings.specs.declared.Mark.{Mark}
 use Rattle.settings.specs.declared.Settings.{Settings}
 
 -- ---- the fields
@@ -92,6 +94,10 @@ firstOutOfRange s = firstOutside 1 ranges (s .fields)
 abbrev pub outOfRange : Settings → Bool
 outOfRange s = not (eqb (firstOutOfRange s) 0)
 
+-- Mark 0 (C-17: "any 32-bit number"): what stands beside a refusal.
+abbrev pub noMark : Mark
+noMark = record { 0 = 0 }
+
 -- All zeros, the yes or no "no": what comes back beside a refusal.
 abbrev pub noSettings : Settings
-noSettings = record { fields = replicate fieldCount 0; «sends_sync» = false }
+noSettings = record { fields = replicate fieldCount 0; «sends_sync» = false; mark = noMark }

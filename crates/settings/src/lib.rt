@@ -1,7 +1,8 @@
-// The settings sheet of a node (document 01, "Settings sheet"): eleven numbers, each with its range, and a yes or no.
+// The settings sheet of a node (document 01, "Settings sheet"): eleven numbers, each with its range, a yes or no, and the mark that names
+// the sheet (document 02, C-17).
 //
 // For the crates above: `Settings`, which holds any numbers, a name for each field, and `first_out_of_range`, by which opening a
-// slot refuses a sheet.
+// slot refuses a sheet; `Mark`, which measurements and reports carry.
 ghost use mathlib.Core.Path.{_≡_};
 ghost use Prim.Native.Nat.{_<_, _≤_};
 ghost use Rattle.settings.specs.Sheet.{fieldCount, within, noSettings, field as Sheet·field, firstOutOfRange, decodingCorrection, delayA, delayB, syncIdLimit, offsetLimit, rateLimit, driftDamping, externalOffsetUnit, externalRateUnit, staticPayloadWords, staticSlots};
@@ -21,7 +22,12 @@ pub struct Settings {
     pub fields: [u32; FIELDS],
     // Whether this node sends a sync frame.
     pub sends_sync: bool,
+    pub mark: Mark,
 }
+
+// The mark of a sheet: any number. It has no range, and nothing is worked out with it; it is a type so that no limit or delay can stand
+// in its place.
+pub struct Mark(pub u32);
 
 pub struct Range {
     pub lowest: u32,
@@ -107,6 +113,7 @@ impl Settings {
         Settings {
             fields: [0; FIELDS],
             sends_sync: false,
+            mark: Mark(0),
         }
     }
 

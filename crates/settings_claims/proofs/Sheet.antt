@@ -12,7 +12,7 @@ use Rattle.numbers.proofs.Walk.{cases, cases-in, came}
 use Rattle.settings.specs.declared.Range.{Range}
 use Rattle.settings.specs.declared.Settings.{Settings}
 use Rattle.settings.specs.Sheet.{field, _to_, ranges, within, firstOutside, firstOutOfRange}
-use Rattle.settings_claims.specs.Sheet.{TypedSettings, rangeOf, IsField, AllInRange, FirstOut, Sheets}
+use Rattle.settings_claims.specs.Sheet.{TypedSettings, rangeOf, IsField, AllInRange, FirstOut, MarkFree, Sheets}
 
 -- the value at a place, counted from 0, is within the range there
 fitsAt : List Range → List ℕ → ℕ → Bool
@@ -92,6 +92,10 @@ module _ (s : Settings) (typed : TypedSettings s) where
         (λ u. absurd (false≢true (sym out-here ∙ out .4 (number - 1) (ltb-true (number - 1) (out .0) u))))
         (λ u. out .1 ∙ omega (arith, ltb-false (number - 1) (out .0) u)))),
   )
+
+-- the mark is not looked at
+pub mark-free : MarkFree
+mark-free mark s = refl
 
 pub sheets : Sheets
 sheets s typed = record { none = sheet-none s typed; first = sheet-first s typed }

@@ -5,6 +5,7 @@ use mathlib.Core.Bool.{true, false}
 use mathlib.Core.Logic.{_↔_}
 use lib.ListN.{length, getD}
 use Rattle.settings.specs.declared.Range.{Range}
+use Rattle.settings.specs.declared.Mark.{Mark}
 use Rattle.settings.specs.declared.Settings.{Settings}
 use Rattle.settings.specs.Sheet.{fieldCount, field, _to_, ranges, within, firstOutOfRange}
 
@@ -33,6 +34,14 @@ pub record FirstOut (s : Settings) (number : ℕ) : Type 0 where
 pub record FieldTold (s : Settings) (told : ℕ) : Type 0 where
   pub none : (told ≡ 0) ↔ AllInRange s
   pub first : (number : ℕ) → IsField number → (told ≡ number) ↔ FirstOut s number
+
+-- C-17: a mark is "any 32-bit number". The sheet with another one.
+abbrev pub withMark : Mark → Settings → Settings
+withMark mark s = record { fields = s .fields; «sends_sync» = s .«sends_sync»; mark = mark }
+
+-- The same is told of it: no mark is a cause for 17.
+abbrev pub MarkFree : Type 0
+MarkFree = (mark : Mark) (s : Settings) → firstOutOfRange (withMark mark s) ≡ firstOutOfRange s
 
 -- What the rule tells of any sheet.
 abbrev pub Sheets : Type 0

@@ -6,9 +6,12 @@ use base_types::SignedMicrotick;
 use base_types::Slot;
 use correction::Deviations;
 use correction::Value;
+use settings::Mark;
 
 pub struct Measurement {
     pub deviation: SignedMicrotick,
+    // That of the settings that it was taken under.
+    pub mark: Mark,
 }
 
 pub enum Measured {

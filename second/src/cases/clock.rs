@@ -13,6 +13,7 @@ mod midpoints;
 mod pairs;
 mod refusals;
 mod second_frames;
+mod sheet_marks;
 mod soundness;
 mod sync_limits;
 mod two_cycles;
@@ -23,6 +24,7 @@ use crate::random::Random;
 
 pub use listed::{CORRECTIONS, DAMPED_OF_01, MIDPOINTS, TIMES_OF_01};
 pub use listed_terms::CLUSTER_LIMITS;
+pub use sheet_marks::MARKS;
 pub use unlooked::COUNTS;
 
 pub fn add(plan: &mut Plan, random: &mut Random) {
@@ -44,4 +46,5 @@ pub fn add(plan: &mut Plan, random: &mut Random) {
     unlooked::add(plan, random);
     between::add(plan, random);
     second_frames::add(plan, random);
+    sheet_marks::add(plan, random);
 }

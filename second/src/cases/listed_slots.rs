@@ -6,11 +6,12 @@ use crate::listed_frames::{SHORT, STARTUP};
 use crate::plan::{Expected, Plan};
 use crate::script::{Command, Opening};
 use crate::settings::Settings;
+use crate::sheet_mark::USUAL;
 
 /// Slot 1 is static, its frames have no words: the shortest listed frame is good in it, in cycle 0.
-const SETTINGS: Settings = Settings { fields: [1, 2, 3, 4, 5, 6, 7, 8, 9, 0, 11], sends_sync: false };
+const SETTINGS: Settings = Settings { fields: [1, 2, 3, 4, 5, 6, 7, 8, 9, 0, 11], sends_sync: false, mark: USUAL };
 
-const CLOCK: &str = "clock 0 0 0 0 0 0 0 0 0 0 0 0 0 0 0 0 0 EVEN 0 ODD 0";
+const CLOCK: &str = "clock 0 0 0 0 0 0 0 0 0 0 0 0 0 0 0 0 0 EVEN 0 ODD 0 0 EVEN ODD";
 
 /// What can happen, each with a letter for it.
 fn happening(letter: char, channel: Channel) -> Command {
@@ -71,6 +72,6 @@ pub(super) fn add_way(plan: &mut Plan, channel: Channel, letters: &str, shown: &
     for letter in letters.chars() {
         plan.add(happening(letter, channel), Expected::line("event 0"));
     }
-    let line = format!("{CLOCK}\nstatus 1 2 3 4 5 6 7 8 9 0 11 0 {} 1 0 {shown}", channel.number());
+    let line = format!("{CLOCK}\nstatus 1 2 3 4 5 6 7 8 9 0 11 0 {} 1 0 {shown} {USUAL}", channel.number());
     plan.add(Command::Show, Expected::Line(line));
 }

@@ -7,6 +7,7 @@ use crate::clock_scene::{list, row};
 use crate::closing::Controls;
 use crate::script::{Cause, Command};
 use crate::settings::SYNC_ID_LIMIT;
+use crate::sheet_mark::SheetMark;
 use crate::sync_list::PLACES;
 
 /// Where a byte stands in `K`, the letter at place 0.
@@ -17,17 +18,28 @@ const LAST: usize = CLOSED + 1;
 const EVEN_COUNT: usize = LAST + 5;
 const FIRST_SEEN: usize = EVEN_COUNT + 3;
 const ODD_COUNT: usize = EVEN_COUNT + 1 + PLACES * ROW;
-const SIZE: usize = ODD_COUNT + 1 + PLACES * ROW;
+const MARK: usize = ODD_COUNT + 1 + PLACES * ROW;
+const PAIRS: usize = MARK + 4;
+const SIZE: usize = PAIRS + 2 * PLACES * PAIR;
 
-/// The bytes of a row.
+/// The bytes of a row, and of the marks that belong to it.
 const ROW: usize = 11;
+const PAIR: usize = 8;
 
-const CLOCK_LINE: &str = "clock 1 2 3 4 5 6 7 8 9 0 11 1 1 4 1 3 -6 EVEN 1 7 3 -8 9 ODD 0\n";
+const CLOCK_LINE: &str =
+    "clock 1 2 3 4 5 6 7 8 9 0 11 1 1 4 1 3 -6 EVEN 1 7 3 -8 9 ODD 0 305419896 EVEN 7 305419896 ODD\n";
 
 /// Cycle 4 open with one ID seen on both channels, cycle 3 closed last.
 fn clock() -> ClockNumbers {
     let lists = [list(&[row(7, Some(-8), Some(9))]), ListNumbers::default()];
-    ClockNumbers { settings: SETTINGS, open: true, cycle: 4, closed: true, last: 3, rate: -6, lists }
+    ClockNumbers { settings: SETTINGS, open: true, cycle: 4, closed: true, last: 3, rate: -6, lists }.marked()
+}
+
+/// The same with mark 7 on A, which isn't that of the settings.
+fn wrongly_marked() -> ClockNumbers {
+    let mut clock = clock();
+    clock.lists[0].rows[0].pair[0] = SheetMark(7);
+    clock
 }
 
 /// Commands of every letter with their lines, on the status in which a frame is kept that is no sync frame. The clock
@@ -40,16 +52,19 @@ pub(super) fn good_ones() -> Vec<(Command, String)> {
         (Command::Measure(times), "measure 18 0\n"),
         (Command::OpenCycle(4), "open 0\n"),
         (Command::Measure(times), "measure 20 0\n"),
-        (Command::CloseCycle(Controls { offset: -128, rate: 127 }), "close 21 0 0 0 0 0 0 0\n"),
+        (Command::CloseCycle(Controls { offset: -128, rate: 127 }), "close 21 0 0 0 0 0 0 0 0\n"),
+        (Command::put_clock(&wrongly_marked()), "clock put\n"),
+        (Command::CloseCycle(Controls::NONE), "close 23 0 0 0 0 0 0 0 0\n"),
         (Command::put_clock(&clock()), "clock put\n"),
-        (Command::CloseCycle(Controls { offset: 1, rate: -1 }), "close 0 4 -15 0 0 0 0 1\n"),
+        (Command::CloseCycle(Controls { offset: 1, rate: -1 }), "close 0 4 -15 0 0 0 0 1 305419896\n"),
         (Command::Load(SETTINGS.with_field(SYNC_ID_LIMIT, 0)), "load 17 4\n"),
-        (Command::CloseCycle(Controls::NONE), "close 23 0 0 0 0 0 0 0\n"),
+        (Command::CloseCycle(Controls::NONE), "close 23 0 0 0 0 0 0 0 0\n"),
     ];
     commands.map(|(command, line)| (command, line.to_string())).into()
 }
 
-/// Every place at which the shorter commands can be cut off, and for `K` all up to the first row and some in the rows.
+/// Every place at which the shorter commands can be cut off, and for `K` all up to the first row, some in the rows and in
+/// their pairs, and all in the mark and in the first and last pair.
 pub(super) fn ends_inside() -> Vec<Small> {
     let times = Times { observed: 9, action_point: 2 };
     let shorter =
@@ -58,10 +73,12 @@ pub(super) fn ends_inside() -> Vec<Small> {
     for script in shorter.map(|command| bytes_of(&command)) {
         all.extend((1..script.len()).map(|size| broken(Cause::EndInside, &script[..size])));
     }
-    // Rows that are not listed must be there as well.
+    // Rows that are not listed must be there as well, and so must their marks.
     let put = bytes_of(&Command::put_clock(&clock()));
-    let in_rows = (EVEN_COUNT + 1..SIZE).filter(|size| size % ROW < 2).chain([ODD_COUNT, ODD_COUNT + 1, SIZE - 1]);
-    all.extend((1..=EVEN_COUNT).chain(in_rows).map(|size| broken(Cause::EndInside, &put[..size])));
+    let in_rows = (EVEN_COUNT + 1..MARK - 1).filter(|size| size % ROW < 2).chain([ODD_COUNT, ODD_COUNT + 1]);
+    let in_pairs = (PAIRS + PAIR..SIZE - PAIR).filter(|size| matches!((size - PAIRS) % PAIR, 0 | 1 | 5));
+    let in_marks = (MARK - 1..PAIRS + PAIR).chain(in_pairs).chain(SIZE - PAIR..SIZE);
+    all.extend((1..=EVEN_COUNT).chain(in_rows).chain(in_marks).map(|size| broken(Cause::EndInside, &put[..size])));
     all
 }
 
@@ -78,21 +95,33 @@ pub(super) fn wrong_switches() -> Vec<Small> {
     all
 }
 
-/// Cycles, counts and unnamed bits may be any.
+/// Cycles, counts, marks and unnamed bits may be any; those that break the rules are put as well.
 pub(super) fn no_errors() -> Vec<Small> {
-    let put = Command::put_clock(&clock());
-    let off = Command::put_clock(&ClockNumbers { open: false, closed: false, ..clock() });
+    let put = Command::put_clock(&wrongly_marked());
+    let off = Command::put_clock(&ClockNumbers { open: false, closed: false, ..wrongly_marked() });
     let off_line = CLOCK_LINE.replace("1 4 1 3 -6", "0 0 0 0 -6");
-    let counted = format!("ODD 255{}", " 0 0 0 0".repeat(PLACES));
+    let with =
+        |parts: &[[&str; 2]]| parts.iter().fold(CLOCK_LINE.to_string(), |line, [from, to]| line.replace(from, to));
+    let [rows, pairs] =
+        [("ODD 255", " 0 0 0 0"), ("ODD", " 0 0")].map(|(start, each)| start.to_string() + &each.repeat(PLACES));
     let cases = [
-        (&put, CYCLE, 255, CLOCK_LINE.replace("1 4 1 3", "1 255 1 3")),
-        (&put, LAST, 64, CLOCK_LINE.replace("1 4 1 3", "1 4 1 64")),
-        (&put, EVEN_COUNT, 0, CLOCK_LINE.replace("EVEN 1 7 3 -8 9", "EVEN 0")),
-        (&put, ODD_COUNT, 255, CLOCK_LINE.replace("ODD 0", &counted)),
-        (&put, FIRST_SEEN, 0b1111_1101, CLOCK_LINE.replace("7 3 -8 9", "7 1 -8 0")),
-        (&put, FIRST_SEEN, 0b1000_0000, CLOCK_LINE.replace("7 3 -8 9", "7 0 0 0")),
+        (&put, CYCLE, 255, with(&[["1 4 1 3", "1 255 1 3"]])),
+        (&put, LAST, 64, with(&[["1 4 1 3", "1 4 1 64"]])),
+        (&put, EVEN_COUNT, 0, with(&[["EVEN 1 7 3 -8 9", "EVEN 0"], ["EVEN 7 305419896", "EVEN"]])),
+        (&put, ODD_COUNT, 255, with(&[["ODD 0", &rows], ["ODD\n", &(pairs + "\n")]])),
+        (&put, FIRST_SEEN, 0b1111_1101, with(&[["7 3 -8 9", "7 1 -8 0"], ["7 305419896", "7 0"]])),
+        (&put, FIRST_SEEN, 0b1000_0010, with(&[["7 3 -8 9", "7 2 0 9"], ["7 305419896", "0 305419896"]])),
+        (&put, FIRST_SEEN, 0b1000_0000, with(&[["7 3 -8 9", "7 0 0 0"], ["7 305419896", "0 0"]])),
         (&off, CYCLE, 255, off_line.clone()),
         (&off, LAST, 2, off_line),
+        (&put, MARK, 0xFF, with(&[["305419896 EVEN", "305420031 EVEN"]])),
+        (&put, MARK + 3, 0xFF, with(&[["305419896 EVEN", "4281620088 EVEN"]])),
+        (&put, PAIRS, 0xFF, with(&[["7 305419896", "255 305419896"]])),
+        (&put, PAIRS + 3, 0x80, with(&[["7 305419896", "2147483655 305419896"]])),
+        (&put, PAIRS + 4, 0, with(&[["7 305419896", "7 305419776"]])),
+        // Those of the second row, which isn't listed, and of the first one of the odd list.
+        (&put, PAIRS + PAIR, 0xFF, CLOCK_LINE.to_string()),
+        (&put, PAIRS + PLACES * PAIR, 0xFF, CLOCK_LINE.to_string()),
     ];
     let shown =
         |(command, place, byte, line)| with_byte(command, place, byte, &format!("clock put\n{line}{STATUS_SHOWN}"));

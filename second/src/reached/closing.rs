@@ -89,7 +89,7 @@ impl Reached {
     fn add_seen(&mut self, cycle: u8) {
         let clock = &self.held.clock;
         let [even, odd] = &clock.lists;
-        let channels = |of_id: &Sighting| of_id.deviations.keys().copied().collect::<Vec<Channel>>();
+        let channels = |of_id: &Sighting| of_id.measurements.keys().copied().collect::<Vec<Channel>>();
         if cycle % 2 == 0 {
             let if_odd = Closing::of(clock, cycle + 1, Controls::NONE).rate_to_store();
             if if_odd.is_some_and(|rate| rate != clock.stored_rate.into()) {

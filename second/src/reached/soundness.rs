@@ -15,8 +15,9 @@ use crate::reason::Reason;
 use crate::refusal::Refusal;
 use crate::scene::Kind;
 use crate::settings::{self, Settings, FIELDS, RATE_LIMIT, SYNC_ID_LIMIT};
+use crate::sheet_mark::SheetMark;
 use crate::slot::SlotStatus;
-use crate::sync_list::{SyncList, DEVIATIONS, PLACES};
+use crate::sync_list::{Measurement, SyncList, DEVIATIONS, PLACES};
 
 /// What stands in a part of a state, and whether it is right.
 pub(super) type Parts = Vec<(String, bool)>;
@@ -80,6 +81,7 @@ fn of_clock(state: &ClockState) -> Parts {
     let rate = state.stored_rate;
     parts.push((format!("rate {rate} of {limit}"), rate.unsigned_abs() <= limit));
     parts.extend((0..2).flat_map(|list| of_list(list, &state.lists[list], ids)));
+    parts.extend((0..2).flat_map(|list| of_marks(list, &state.lists[list], state.settings.mark)));
     parts
 }
 
@@ -90,15 +92,28 @@ fn of_list(list: usize, of_cycle: &SyncList, limit: u32) -> Parts {
     let mut parts = vec![(format!("list {list} has {count} of {limit}"), fits)];
     let mut earlier = Vec::new();
     for (row, of_id) in of_cycle.sightings.iter().enumerate() {
-        let (id, seen) = (of_id.id, of_id.deviations.keys().collect::<Vec<_>>());
+        let (id, seen) = (of_id.id, of_id.measurements.keys().collect::<Vec<_>>());
         parts.push((format!("list {list} row {row} has ID {id}"), (1..=HIGHEST_ID).contains(&id)));
         parts.push((format!("list {list} sees on {seen:?}"), !seen.is_empty()));
-        for (channel, deviation) in &of_id.deviations {
+        for (channel, Measurement { deviation, .. }) in &of_id.measurements {
             parts.push((format!("list {list} has {deviation} on {channel:?}"), DEVIATIONS.contains(deviation)));
         }
         let same = earlier.iter().filter(|(other, _)| *other == id);
         parts.extend(same.map(|(_, before)| (format!("list {list} sees one on {before:?} and {seen:?}"), false)));
         earlier.push((id, seen));
+    }
+    parts
+}
+
+/// 02 C-17: each measurement of a list, by the place of its row.
+fn of_marks(list: usize, of_cycle: &SyncList, mark: SheetMark) -> Parts {
+    let count = of_cycle.count();
+    let mut parts = Vec::new();
+    for (row, of_id) in of_cycle.sightings.iter().enumerate() {
+        for (channel, measured) in &of_id.measurements {
+            let whose = if measured.mark == mark { "the sheet's mark" } else { "another mark" };
+            parts.push((format!("list {list} row {row} of {count} has {whose} on {channel:?}"), measured.mark == mark));
+        }
     }
     parts
 }

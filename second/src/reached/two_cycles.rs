@@ -9,7 +9,7 @@ use crate::clock::{list_of, ClockState, Times};
 use crate::clock_faults::LONGEST_CYCLE;
 use crate::closing::Closing;
 use crate::correction::{midpoint, Found};
-use crate::sync_list::Sighting;
+use crate::sync_list::{Measurement, Sighting};
 
 /// The ends of the range of deviations, and of the differences that can be put and measured.
 const FAR: [i64; 6] = [-2_560_510, 2_560_000, -5_120_510, 5_120_510, -5_120_000, 5_120_000];
@@ -31,9 +31,11 @@ impl Reached {
     fn add_second_cycle(&mut self, second: [bool; 2], list: usize, deviation: i32) {
         let (clock, status) = (&self.held.clock, &self.held.status);
         let channel = status.channel;
-        let earlier = status.kept.and_then(|frame| clock.lists[0].of(frame.id)?.deviations.get(&channel));
+        let earlier = status.kept.and_then(|frame| clock.lists[0].of(frame.id)?.measurements.get(&channel));
         let text = match (second, earlier) {
-            ([true, true], Some(even)) if list == 1 => format!("ran on from {even} to {deviation} on {channel:?}"),
+            ([true, true], Some(even)) if list == 1 => {
+                format!("ran on from {} to {deviation} on {channel:?}", even.deviation)
+            }
             ([false, true], _) => format!("across the first cycle's end by {deviation} in list {list} on {channel:?}"),
             ([true, false], _) => {
                 format!("back across the first cycle's end by {deviation} in list {list} on {channel:?}")
@@ -60,8 +62,8 @@ impl Reached {
 fn of_list(clock: &ClockState, list: usize) -> Vec<String> {
     let mut all = Vec::new();
     for of_id in &clock.lists[list].sightings {
-        let on = of_id.deviations.iter();
-        all.extend(on.map(|(channel, deviation)| format!("{deviation} in list {list} on {channel:?}")));
+        let on = of_id.measurements.iter();
+        all.extend(on.map(|(channel, measured)| format!("{} in list {list} on {channel:?}", measured.deviation)));
         let earlier = clock.lists[0].of(of_id.id).filter(|_| list == 1);
         all.extend(earlier.map(|even| format!("cycles apart by {:?}", apart(even, of_id))));
     }
@@ -69,8 +71,10 @@ fn of_list(clock: &ClockState, list: usize) -> Vec<String> {
 }
 
 fn apart(even: &Sighting, odd: &Sighting) -> BTreeMap<Channel, i32> {
-    let on = |(channel, later): (&Channel, &i32)| Some((*channel, later - even.deviations.get(channel)?));
-    odd.deviations.iter().filter_map(on).collect()
+    let on = |(channel, later): (&Channel, &Measurement)| {
+        Some((*channel, later.deviation - even.measurements.get(channel)?.deviation))
+    };
+    odd.measurements.iter().filter_map(on).collect()
 }
 
 /// The values of a term that are as far off as can be: within its limit it shows whether they were kept whole.

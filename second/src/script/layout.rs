@@ -9,6 +9,7 @@ use crate::clock_numbers::{ClockNumbers, ListNumbers, RowNumbers};
 use crate::closing::Controls;
 use crate::reader_numbers::{ReaderNumbers, LAST_PHASE};
 use crate::settings::Settings;
+use crate::sheet_mark::SheetMark;
 use crate::status_numbers::{HeaderNumbers, StatusNumbers};
 
 /// The highest content reason that a script may name: (f) of 02 C-15.
@@ -110,16 +111,27 @@ trait Way {
         self.room(&mut encode.room)
     }
 
+    /// Without their mark, which stands at the end of the item.
     fn settings(&mut self, settings: &mut Settings) -> Done {
         settings.fields.iter_mut().try_for_each(|field| self.long(field))?;
         self.switch(&mut settings.sends_sync)
+    }
+
+    fn mark(&mut self, mark: &mut SheetMark) -> Done {
+        self.long(&mut mark.0)
+    }
+
+    fn load(&mut self, settings: &mut Settings) -> Done {
+        self.settings(settings)?;
+        self.mark(&mut settings.mark)
     }
 
     fn opening(&mut self, opening: &mut Opening) -> Done {
         self.settings(&mut opening.settings)?;
         self.byte(&mut opening.channel)?;
         self.number(&mut opening.slot)?;
-        self.byte(&mut opening.cycle)
+        self.byte(&mut opening.cycle)?;
+        self.mark(&mut opening.settings.mark)
     }
 
     fn status(&mut self, status: &mut StatusNumbers) -> Done {
@@ -131,7 +143,8 @@ trait Way {
         self.byte(&mut status.reason)?;
         self.forbid(status.reason > LAST_REASON, Cause::ReasonAbove)?;
         self.switch(&mut status.kept)?;
-        self.header(&mut status.header)
+        self.header(&mut status.header)?;
+        self.mark(&mut status.settings.mark)
     }
 
     fn header(&mut self, header: &mut HeaderNumbers) -> Done {
@@ -159,7 +172,9 @@ trait Way {
         self.switch(&mut clock.closed)?;
         self.byte(&mut clock.last)?;
         self.signed(&mut clock.rate)?;
-        clock.lists.iter_mut().try_for_each(|list| self.list(list))
+        clock.lists.iter_mut().try_for_each(|list| self.list(list))?;
+        self.mark(&mut clock.settings.mark)?;
+        clock.lists.iter_mut().flat_map(|list| &mut list.rows).try_for_each(|row| self.pair(row))
     }
 
     fn list(&mut self, list: &mut ListNumbers) -> Done {
@@ -171,6 +186,10 @@ trait Way {
         self.number(&mut row.id)?;
         self.byte(&mut row.seen)?;
         row.deviations.iter_mut().try_for_each(|deviation| self.signed(deviation))
+    }
+
+    fn pair(&mut self, row: &mut RowNumbers) -> Done {
+        row.pair.iter_mut().try_for_each(|mark| self.mark(mark))
     }
 
     fn listen(&mut self, listen: &mut Listen) -> Done {
@@ -213,7 +232,7 @@ trait Way {
             Command::Bench(bytes) | Command::Arrived(bytes) => self.sized(bytes),
             Command::OpenSlot(opening) => self.opening(opening),
             Command::PutStatus(numbers) => self.status(numbers),
-            Command::Load(settings) => self.settings(settings),
+            Command::Load(settings) => self.load(settings),
             Command::OpenCycle(cycle) => self.byte(cycle),
             Command::Measure(times) => self.times(times),
             Command::CloseCycle(controls) => self.controls(controls),

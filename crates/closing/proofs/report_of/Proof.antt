@@ -36,6 +36,7 @@ returns c =
       «offset_limited» = offset i .«is_limited»;
       «rate_limited» = rate i .«is_limited»;
       ids = list i .count;
+      mark = k .settings .mark;
     }
 
 pub report-of-spec : {M : Type 1} → statement M

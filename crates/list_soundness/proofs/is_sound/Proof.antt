@@ -14,19 +14,19 @@ use Rattle.numbers.proofs.Walk.{came, length-of-mapped}
 use Rattle.base_types.specs.declared.id.Slot.{Slot}
 use Rattle.sync_list.specs.Lists.{rowCount, listed}
 use Rattle.sync_list.proofs.ListLaws.{Walk, walk-start, walk-next, walk-there, noRow, NotYet, it-is-here, not-here}
-use Rattle.list_soundness.proofs.SoundLaws.{SoundSoFar, none-passed, new-above, row-fine, unsound-at, twice-at, all-passed}
+use Rattle.list_soundness.proofs.SoundLaws.{SoundSoFar, none-passed, new-above, row-fine, unsound-at, unmarked-at, twice-at, all-passed}
 
 abbrev Inv-loop2 : tie.InvT-loop2
-Inv-loop2 limit list n highest i row j₀ j = (j ≤ i) × NotYet (row .id) list j
+Inv-loop2 limit mark list n highest i row j₀ j = (j ≤ i) × NotYet (row .id) list j
 
 abbrev μ-loop2 : tie.MeasureT-loop2
-μ-loop2 limit list n highest i row j₀ j = i - j
+μ-loop2 limit mark list n highest i row j₀ j = i - j
 
 abbrev Inv-loop : tie.InvT-loop
-Inv-loop limit list n highest₀ i₀ highest i = Walk list n i × SoundSoFar highest (take i (listed list))
+Inv-loop limit mark list n highest₀ i₀ highest i = Walk list n i × SoundSoFar mark highest (take i (listed list))
 
 abbrev μ-loop : tie.MeasureT-loop
-μ-loop limit list n highest₀ i₀ highest i = n - i
+μ-loop limit mark list n highest₀ i₀ highest i = n - i
 
 long : (c : tie.Start Inv-loop2 μ-loop2 Inv-loop μ-loop) → length (c .args .t1 .rows) ≡ rowCount
 long c = search (needs, length-of-mapped)
@@ -37,14 +37,21 @@ returns c = rw (lt-leb _ _ (c .if1 .taken))
 loop-holds : tie.Need-loop-holds Inv-loop2 μ-loop2 Inv-loop μ-loop
 loop-holds c =
     let s : tie.Start Inv-loop2 μ-loop2 Inv-loop μ-loop = search needs in
-    (walk-start (s .args .t1) (long s) _ (c .listed .ensures), none-passed)
+    (walk-start (s .args .t1) (long s) _ (c .listed .ensures), none-passed _)
 
 returns-2 : tie.Need-returns-2 Inv-loop2 μ-loop2 Inv-loop μ-loop
 returns-2 c =
     let s : tie.Start Inv-loop2 μ-loop2 Inv-loop μ-loop = search needs in
     let l : tie.At-loop Inv-loop2 μ-loop2 Inv-loop μ-loop = search needs in
     let r = c .before .row-sound in
-    sym (unsound-at (s .args .t1) (l .loop .i) (omega arith) (s .args .limit) (sym (r .ensures) ∙ not-true (r .result) (c .if2 .taken)))
+    sym (unsound-at (s .args .t1) (l .loop .i) (omega arith) (s .args .limit) (s .args .mark) (sym (r .ensures) ∙ not-true (r .result) (c .if2 .taken)))
+
+returns-3 : tie.Need-returns-3 Inv-loop2 μ-loop2 Inv-loop μ-loop
+returns-3 c =
+    let s : tie.Start Inv-loop2 μ-loop2 Inv-loop μ-loop = search needs in
+    let l : tie.At-loop Inv-loop2 μ-loop2 Inv-loop μ-loop = search needs in
+    let r = c .before .row-marked in
+    sym (unmarked-at (s .args .t1) (l .loop .i) (omega arith) (s .args .limit) (s .args .mark) (sym (r .ensures) ∙ not-true (r .result) (c .if3 .taken)))
 
 -- ---- the search for an ID that is not above the highest
 
@@ -58,15 +65,15 @@ sought c =
 loop2-holds : tie.Need-loop2-holds Inv-loop2 μ-loop2 Inv-loop μ-loop
 loop2-holds c = (omega arith, sym (zero-add _))
 
-returns-3 : tie.Need-returns-3 Inv-loop2 μ-loop2 Inv-loop μ-loop
-returns-3 c =
+returns-4 : tie.Need-returns-4 Inv-loop2 μ-loop2 Inv-loop μ-loop
+returns-4 c =
     let s : tie.Start Inv-loop2 μ-loop2 Inv-loop μ-loop = search needs in
     let l : tie.In-loop Inv-loop2 μ-loop2 Inv-loop μ-loop = search needs in
     let t : tie.In-loop2 Inv-loop2 μ-loop2 Inv-loop μ-loop = search needs in
     let k = t .before .loop2 in
     let w = l .before .loop .inv .0 in
-    let place = it-is-here (sought (t .before)) (s .args .t1) (k .j) (k .inv .1) (omega (arith, t .loop2-test .taken, l .loop-test .taken, w .all)) (eq-eqb _ _ (c .if4 .taken)) in
-    sym (twice-at (s .args .t1) (l .before .loop .i) (walk-there w (l .loop-test .taken)) (s .args .limit) (rw place (t .loop2-test .taken)))
+    let place = it-is-here (sought (t .before)) (s .args .t1) (k .j) (k .inv .1) (omega (arith, t .loop2-test .taken, l .loop-test .taken, w .all)) (eq-eqb _ _ (c .if5 .taken)) in
+    sym (twice-at (s .args .t1) (l .before .loop .i) (walk-there w (l .loop-test .taken)) (s .args .limit) (s .args .mark) (rw place (t .loop2-test .taken)))
 
 loop2-again : tie.Need-loop2-again Inv-loop2 μ-loop2 Inv-loop μ-loop
 loop2-again c =
@@ -74,7 +81,7 @@ loop2-again c =
     let l : tie.In-loop Inv-loop2 μ-loop2 Inv-loop μ-loop = search needs in
     let t : tie.In-loop2 Inv-loop2 μ-loop2 Inv-loop μ-loop = search needs in
     let k = t .before .loop2 in
-    let later = not-here (sought (t .before)) (s .args .t1) (k .j) (k .inv .1) (omega (arith, t .loop2-test .taken, l .loop-test .taken, l .before .loop .inv .0 .all)) (ne-eqb _ _ (c .if4 .left)) in
+    let later = not-here (sought (t .before)) (s .args .t1) (k .j) (k .inv .1) (omega (arith, t .loop2-test .taken, l .loop-test .taken, l .before .loop .inv .0 .all)) (ne-eqb _ _ (c .if5 .left)) in
     rw add-one (t .loop2-test .taken, later)
 
 -- ---- the walk
@@ -84,26 +91,29 @@ loop-again c =
     let s : tie.Start Inv-loop2 μ-loop2 Inv-loop μ-loop = search needs in
     let t : tie.In-loop Inv-loop2 μ-loop2 Inv-loop μ-loop = search needs in
     let e : tie.Else2 Inv-loop2 μ-loop2 Inv-loop μ-loop = search needs in
+    let f : tie.Else3 Inv-loop2 μ-loop2 Inv-loop μ-loop = search needs in
     let list = s .args .t1 in
     let k = t .before .loop in
     let r = e .before .row-sound in
+    let q = f .before .row-marked in
     let there = walk-there (k .inv .0) (t .loop-test .taken) in
     let good = sym (r .ensures) ∙ not-false (r .result) (e .if2 .left) in
-    let fine = row-fine list (k .i) there (k .highest) (c .if3 .highest) (k .inv .1) good in (
+    let marked = sym (q .ensures) ∙ not-false (q .result) (f .if3 .left) in
+    let fine = row-fine list (k .i) there (s .args .mark) (k .highest) (k .inv .1) (c .if4 .highest) good marked in (
       rw add-one (walk-next (k .inv .0) (t .loop-test .taken)),
       rw add-one
-          (came (c .if3 .came)
-          (λ w. fine (new-above list (k .i) there (k .highest) (k .inv .1) (w .0 .taken)) (omega (arith, w .0 .taken, w .1)) (omega (arith, w .1)))
+          (came (c .if4 .came)
+          (λ w. fine (new-above list (k .i) there (s .args .mark) (k .highest) (k .inv .1) (w .0 .taken)) (omega (arith, w .0 .taken, w .1)) (omega (arith, w .1)))
           (λ w. fine (omega (arith, w .1 .inv .1, w .2 .left)) (omega (arith, w .3)) (omega (arith, w .0 .left, w .3)))),
     )
 
-returns-4 : tie.Need-returns-4 Inv-loop2 μ-loop2 Inv-loop μ-loop
-returns-4 c =
+returns-5 : tie.Need-returns-5 Inv-loop2 μ-loop2 Inv-loop μ-loop
+returns-5 c =
     let s : tie.Start Inv-loop2 μ-loop2 Inv-loop μ-loop = search needs in
     let e : tie.Else1 Inv-loop2 μ-loop2 Inv-loop μ-loop = search needs in
     let k = c .before .loop in
     let passed = rw (take-all (k .i) (listed (s .args .t1)) (omega arith)) at (k .inv .1) in
-    sym (all-passed (s .args .t1) (s .args .limit) (k .highest) (le-leb _ _ (e .if1 .left)) passed)
+    sym (all-passed (s .args .t1) (s .args .limit) (s .args .mark) (k .highest) (le-leb _ _ (e .if1 .left)) passed)
 
 pub is-sound-spec : {M : Type 1} → statement M
 is-sound-spec =
@@ -117,8 +127,9 @@ is-sound-spec =
     (λ c κs. search needs) loop-holds
     (λ c. omega arith) (λ c. omega arith)
     (λ c κs. search needs) returns-2
+    (λ c κs. search needs) returns-3
     loop2-holds
-    (λ c. omega arith) (λ c. omega arith) returns-3
+    (λ c. omega arith) (λ c. omega arith) returns-4
     (λ c. omega arith) (λ c. omega arith) loop2-again
     (λ c. omega arith) (λ c. omega arith) loop-again
-    returns-4)
+    returns-5)

@@ -15,6 +15,9 @@ has-frame c = sym (c .before .is-frame .ensures) ∙ not-false (c .before .is-fr
 sync-is : (c : tie.After-frame-of) → let s : tie.Start = search needs in frameOf (s .args .status) .sync ≡ c .frame-of .result .sync
 sync-is c = sym (ap (λ (h : Header). h .sync) (c .frame-of .ensures))
 
+returns : tie.Need-returns
+returns c = rw (sym (c .before .is-frame .ensures) ∙ not-true (c .before .is-frame .result) (c .if1 .taken))
+
 returns-2 : tie.Need-returns-2
 returns-2 c = rw (has-frame (c .before .before .before), sync-is (c .before .before) ∙ not-true (c .before .before .frame-of .result .sync) (c .if2 .taken))
 
@@ -24,4 +27,4 @@ returns-3 c = rw (has-frame (c .before .before .before .before), sync-is (c .bef
 pub no-sync-frame-spec : {M : Type 1} → statement M
 no-sync-frame-spec =
     tie.close
-    (tie.spec (λ c κs. search needs) (λ c. search needs) (λ c κs. search needs) returns-2 (λ c κs. search needs) returns-3)
+    (tie.spec (λ c κs. search needs) returns (λ c κs. search needs) returns-2 (λ c κs. search needs) returns-3)

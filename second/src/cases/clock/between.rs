@@ -35,6 +35,7 @@ pub(in crate::cases) fn each(order: &[Refusal]) -> Vec<Vec<Refusal>> {
 fn add_clock_stays(plan: &mut Plan, random: &mut Random, open: bool) {
     let mut held = ClockNumbers { open, closed: true, ..fair_clock(random) };
     held.lists.iter_mut().for_each(|list| list.count = list.count.max(2));
+    let held = held.marked();
     put(plan, &held);
     show(plan, &held);
     for command in foreign_commands(random) {

@@ -10,6 +10,7 @@ use crate::plan::{Expected, Plan};
 use crate::random::Random;
 use crate::refusal::Refusal;
 use crate::script::Command;
+use crate::sheet_mark::USUAL;
 
 pub fn add(plan: &mut Plan, random: &mut Random) {
     for cycle in 0..=HIGHEST_CYCLE {
@@ -49,6 +50,7 @@ fn add_opened(plan: &mut Plan, random: &mut Random, cycle: u8, last: Last) {
     before.closed = last != Last::None;
     before.last = last_cycle(random, cycle, last);
     before.lists.iter_mut().for_each(|list| list.count = list.count.max(1));
+    let before = before.marked();
     put(plan, &before);
     open(plan, cycle);
     let even_stays = cycle % 2 == 1 && last == Last::Before;
@@ -95,7 +97,7 @@ fn add_story(plan: &mut Plan, random: &mut Random, story: &[Cycle]) {
             let times = Times { observed: 500 + *deviation as u32, action_point: 500 };
             measure(plan, &sync_status(random, channel, 12, *cycle), times, *deviation);
             plan.add(Command::Show, Expected::Anything);
-            close(plan, line);
+            close(plan, USUAL, line);
             plan.add(Command::Show, Expected::Anything);
         }
     }

@@ -9,6 +9,7 @@ use crate::closing::Controls;
 use crate::plan::Plan;
 use crate::random::Random;
 use crate::settings::{Settings, DECODING_CORRECTION, DRIFT_DAMPING, EXTERNAL_RATE_UNIT, RATE_LIMIT};
+use crate::sheet_mark::USUAL;
 
 /// 01's midpoints with their values.
 pub const MIDPOINTS: [(&[i32], i64); 6] = [
@@ -107,7 +108,7 @@ fn add_rates(plan: &mut Plan, random: &mut Random, channel: Channel) {
         open(plan, cycle);
         let times = Times { observed: 60, action_point: 66 };
         measure(plan, &sync_status(random, channel, 1, cycle), times, -6);
-        close(plan, line);
+        close(plan, USUAL, line);
     }
     let mut before = open_at(damped_settings(), 63, [list(&rows(channel, &[-4])), list(&rows(channel, &[-4]))]);
     before.rate = 1;

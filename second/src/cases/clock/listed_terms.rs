@@ -36,7 +36,7 @@ fn play(plan: &mut Plan, random: &mut Random, settings: Settings, cycles: &[Cycl
             let times = Times { observed: (20_000 + deviation) as u32, action_point: 20_000 };
             measure(plan, &sync_status(random, *channel, *id, *cycle), times, *deviation);
         }
-        close(plan, line);
+        close(plan, settings.mark, line);
     }
 }
 

@@ -12,6 +12,7 @@ use crate::random::Random;
 use crate::scene::fair_settings;
 use crate::script::Command;
 use crate::settings::{self, Settings, FIELDS};
+use crate::sheet_mark::USUAL;
 
 pub fn add(plan: &mut Plan, random: &mut Random) {
     let zeros = ClockNumbers::default();
@@ -80,10 +81,10 @@ fn add_loaded_in_an_open_cycle(plan: &mut Plan, random: &mut Random, channel: Ch
     after.lists[0].count = 1;
     after.lists[0].rows[0] = row_on(5, channel, 60);
     show(plan, &after);
-    close(plan, "close 0 60 0 0 0 0 0 1");
+    close(plan, new.mark, "close 0 60 0 0 0 0 0 1");
     load(plan, old);
     open(plan, 6);
-    close(plan, "close 0 0 0 1 0 0 0 0");
+    close(plan, old.mark, "close 0 0 0 1 0 0 0 0");
 }
 
 /// An even cycle before the load makes no pair with the odd one behind it.
@@ -92,10 +93,10 @@ fn add_loaded_between_two_cycles(plan: &mut Plan, random: &mut Random, channel: 
     load(plan, wide_settings(false));
     open(plan, 4);
     measure(plan, &sync_status(random, channel, 5, 4), TIMES_OF_01, 100);
-    close(plan, "close 0 100 0 0 0 0 0 1");
+    close(plan, USUAL, "close 0 100 0 0 0 0 0 1");
     load(plan, new);
     open(plan, 5);
     show(plan, &open_at(new, 5, Default::default()));
     measure(plan, &sync_status(random, channel, 5, 5), TIMES_OF_01, 60);
-    close(plan, "close 0 60 0 0 1 0 0 1");
+    close(plan, new.mark, "close 0 60 0 0 1 0 0 1");
 }

@@ -13,7 +13,7 @@ use crate::history;
 use crate::plan::{Expected, Plan};
 use crate::random::Random;
 use crate::refusal::Refusal;
-use crate::scene::{Kind, Scene};
+use crate::scene::{fair_settings, Kind, Scene};
 use crate::script::Command;
 use crate::settings::{
     self, Settings, DECODING_CORRECTION, DELAY_A, DELAY_B, FIELDS, HIGHEST_CORRECTION, HIGHEST_DELAY, OFFSET_LIMIT,
@@ -98,7 +98,8 @@ fn add_other_delays(plan: &mut Plan, random: &mut Random, channel: Channel) {
     let (fewest, most) = settings::ends(SYNC_ID_LIMIT);
     for limit in [fewest, most] {
         put(plan, &open_at(settings, 6, Default::default()));
-        let highest = Settings { fields: RANGES.map(|range| *range.end()), sends_sync: random.coin() };
+        let fields = RANGES.map(|range| *range.end());
+        let highest = Settings { fields, ..fair_settings(random) };
         let late = highest.with_field(DELAY_A, 200).with_field(DELAY_B, 100).with_field(SYNC_ID_LIMIT, limit);
         let of_status =
             [OFFSET_LIMIT, RATE_LIMIT, STATIC_WORDS].iter().fold(late, |all, field| all.with_field(*field, 0));

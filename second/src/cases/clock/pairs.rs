@@ -33,7 +33,7 @@ fn add_smaller(plan: &mut Plan) {
 }
 
 fn seen_as(seen: u8, deviations: [i32; 2]) -> RowNumbers {
-    RowNumbers { id: 4, seen, deviations }
+    RowNumbers { seen, deviations, ..row(4, None, None) }
 }
 
 /// The difference is 10 on A and 20 on B; on channels seen once there is none.

@@ -72,7 +72,7 @@ fn add_cycles(plan: &mut Plan, channel: Channel, mut leave_slot: impl FnMut(&mut
         held = ClockNumbers { open: true, cycle, ..held };
         held.lists[place] = list(&[row_on(ID, channel, deviation)]);
         show(plan, &held);
-        close(plan, line);
+        close(plan, held.settings.mark, line);
         held = closed(&held, rate);
         show(plan, &held);
     }
@@ -116,6 +116,6 @@ fn add_unfit(plan: &mut Plan, random: &mut Random, channel: Channel) {
         let sound = doubled(sync_status(random, channel, ID, 24));
         refuse_measure(plan, &held, &StatusNumbers { marks, kept, ..sound }, Refusal::NotSound);
     }
-    close(plan, "close 0 7 0 0 0 0 0 1");
+    close(plan, held.settings.mark, "close 0 7 0 0 0 0 0 1");
     show(plan, &closed(&held, 0));
 }

@@ -1,4 +1,5 @@
-//! Clock states with one clause of 01's soundness broken, each beside a sound one that differs in that clause alone.
+//! Clock states with one clause of 01's soundness broken, each beside a sound one that differs in that clause alone. For
+//! the clause of 02 C-17 there are more in `sheet_marks`.
 
 use crate::channel::Channel;
 use crate::clock::Times;
@@ -15,13 +16,13 @@ use crate::script::Command;
 use crate::settings::{self, FIELDS, HIGHEST_RATE_LIMIT, RATE_LIMIT, SYNC_ID_LIMIT};
 use crate::sync_list::{DEVIATIONS, PLACES};
 
-struct Pair {
-    sound: ClockNumbers,
-    unsound: ClockNumbers,
+pub(super) struct Pair {
+    pub sound: ClockNumbers,
+    pub unsound: ClockNumbers,
 }
 
-/// The one ID that is measured: in the first place, and seen on A alone.
-const MEASURED: u16 = 100;
+/// The one ID that is measured: in the first place, and seen on A alone, unless a case has it elsewhere.
+pub(super) const MEASURED: u16 = 100;
 
 pub fn add(plan: &mut Plan, random: &mut Random) {
     let mut pairs: Vec<Pair> = (1..=FIELDS).flat_map(settings).collect();
@@ -41,14 +42,14 @@ pub fn add(plan: &mut Plan, random: &mut Random) {
 
 /// Every entry is refused and leaves the state as it was put. Without this refusal opening would give 19, and the others
 /// would be accepted.
-fn add_unsound(plan: &mut Plan, random: &mut Random, pair: &Pair) {
+pub(super) fn add_unsound(plan: &mut Plan, random: &mut Random, pair: &Pair) {
     history::put(plan, &sync_status(random, Channel::B, MEASURED, pair.sound.cycle));
     put(plan, &pair.unsound);
     show(plan, &pair.unsound);
     refuse_all(plan, &pair.unsound);
 }
 
-fn add_repaired(plan: &mut Plan, random: &mut Random, pair: &Pair) {
+pub(super) fn add_repaired(plan: &mut Plan, random: &mut Random, pair: &Pair) {
     put(plan, &pair.sound);
     history::put(plan, &sync_status(random, Channel::B, MEASURED, pair.sound.cycle));
     plan.add(Command::Measure(Times { observed: 70, action_point: 70 }), Expected::Accepted);

@@ -8,6 +8,7 @@ use crate::plan::Plan;
 use crate::random::Random;
 use crate::refusal::Refusal;
 use crate::settings::{self, SYNC_ID_LIMIT};
+use crate::sheet_mark::SheetMark;
 use crate::sync_list::PLACES;
 
 pub fn add(plan: &mut Plan, random: &mut Random) {
@@ -24,7 +25,12 @@ pub fn add(plan: &mut Plan, random: &mut Random) {
 }
 
 /// A row that isn't looked at while it is not listed, and of which nothing stays when it is taken over.
-const STRANGE: RowNumbers = RowNumbers { id: 0xABCD, seen: 3, deviations: [i32::MIN, 123_456] };
+const STRANGE: RowNumbers = RowNumbers {
+    id: 0xABCD,
+    seen: 3,
+    deviations: [i32::MIN, 123_456],
+    pair: [SheetMark(u32::MAX), SheetMark(654_321)],
+};
 
 /// The state with one place left in the open cycle's list.
 fn nearly_full(limit: u32, cycle: u8, channel: Channel) -> ClockNumbers {

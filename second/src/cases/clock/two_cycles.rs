@@ -95,7 +95,7 @@ fn add_times(plan: &mut Plan, random: &mut Random, channel: Channel, cycle: u8, 
     for given in REFUSED {
         refuse(plan, &held, Command::Measure(times(given)), Refusal::Time);
     }
-    close(plan, line);
+    close(plan, settings.mark, line);
     show(plan, &closed(&held, 0));
 }
 
@@ -129,7 +129,7 @@ fn play_on(plan: &mut Plan, random: &mut Random, before: ClockNumbers, cycles: &
         for (id, channel, given, deviation) in *measured {
             measure(plan, &sync_status(random, *channel, *id, *cycle), times(*given), (*deviation).into());
         }
-        close(plan, line);
+        close(plan, held.settings.mark, line);
         held = closed(&with_measured(&held, *cycle, measured), *stored);
         show(plan, &held);
     }

@@ -9,6 +9,7 @@ use crate::frame::HIGHEST_CYCLE;
 use crate::plan::{Expected, Plan};
 use crate::random::Random;
 use crate::script::Command;
+use crate::sheet_mark::SheetMark;
 use crate::sync_list::{DEVIATIONS, PLACES};
 
 const MOST: u8 = PLACES as u8;
@@ -84,6 +85,7 @@ fn add_counts(plan: &mut Plan, random: &mut Random, count: u8) {
             id: random.below(0x1_0000) as u16,
             seen: random.below(256) as u8,
             deviations: [(); 2].map(|_| random.below(1 << 32) as u32 as i32),
+            pair: [(); 2].map(|_| SheetMark::any(random)),
         });
         numbers.lists[place] = ListNumbers { count, rows };
         put(plan, &numbers);

@@ -56,6 +56,7 @@ fn add_others_stay(plan: &mut Plan, random: &mut Random, channel: Channel) {
     let status = history::demanded(&scene.fresh(), &happened);
     let mut clock = ClockNumbers { open: true, closed: true, ..fair_clock(random) };
     clock.lists.iter_mut().for_each(|list| list.count = list.count.max(2));
+    let clock = clock.marked();
     clock_history::put(plan, &clock);
     open(plan, channel);
     hear(plan, &samples::short_stream(channel), &[0]);

@@ -29,16 +29,16 @@ closed-sound c = sym (c .before .cycle-sound2 .ensures) ∙ not-false _ (c .if3 
 limit-is : (c : tie.After-sync-id-limit) → c .sync-id-limit .result ≡ syncIdLimit (clockAt (search needs) .settings)
 limit-is c = c .sync-id-limit .ensures
 
-even-is : (c : tie.After-is-sound) → let k = clockAt (search needs) in listSound (syncIdLimit (k .settings)) (k .even) ≡ c .is-sound .result
-even-is c = sym (c .is-sound .ensures ∙ ap (λ (n : ℕ). listSound n (clockAt (search needs) .even)) (limit-is (search needs)))
+even-is : (c : tie.After-is-sound) → let k = clockAt (search needs) in listSound (syncIdLimit (k .settings)) (k .settings .mark) (k .even) ≡ c .is-sound .result
+even-is c = sym (c .is-sound .ensures ∙ ap (λ (n : ℕ). let k = clockAt (search needs) in listSound n (k .settings .mark) (k .even)) (limit-is (search needs)))
 
-even-sound : (c : tie.Else4) → let k = clockAt (search needs) in listSound (syncIdLimit (k .settings)) (k .even) ≡ true
+even-sound : (c : tie.Else4) → let k = clockAt (search needs) in listSound (syncIdLimit (k .settings)) (k .settings .mark) (k .even) ≡ true
 even-sound c = even-is (search needs) ∙ not-false _ (c .if4 .left)
 
-odd-is : (c : tie.After-is-sound2) → let k = clockAt (search needs) in listSound (syncIdLimit (k .settings)) (k .odd) ≡ c .is-sound2 .result
-odd-is c = sym (c .is-sound2 .ensures ∙ ap (λ (n : ℕ). listSound n (clockAt (search needs) .odd)) (limit-is (search needs)))
+odd-is : (c : tie.After-is-sound2) → let k = clockAt (search needs) in listSound (syncIdLimit (k .settings)) (k .settings .mark) (k .odd) ≡ c .is-sound2 .result
+odd-is c = sym (c .is-sound2 .ensures ∙ ap (λ (n : ℕ). let k = clockAt (search needs) in listSound n (k .settings .mark) (k .odd)) (limit-is (search needs)))
 
-odd-sound : (c : tie.Else5) → let k = clockAt (search needs) in listSound (syncIdLimit (k .settings)) (k .odd) ≡ true
+odd-sound : (c : tie.Else5) → let k = clockAt (search needs) in listSound (syncIdLimit (k .settings)) (k .settings .mark) (k .odd) ≡ true
 odd-sound c = odd-is (search needs) ∙ not-false _ (c .if5 .left)
 
 -- ---- each return

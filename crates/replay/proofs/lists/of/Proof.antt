@@ -7,10 +7,10 @@ use Rattle.replay.proofs.lists.of.Statement.{statement}
 use Rattle.replay.proofs.lists.of.Tie as tie
 
 abbrev Inv-loop : tie.InvT-loop
-Inv-loop at item rows₀ i₀ rows i = i ≤ rowCount
+Inv-loop at pairs item rows₀ i₀ rows i = i ≤ rowCount
 
 abbrev μ-loop : tie.MeasureT-loop
-μ-loop at item rows₀ i₀ rows i = rowCount - i
+μ-loop at pairs item rows₀ i₀ rows i = rowCount - i
 
 pub of-spec : {M : Type 1} → statement M
 of-spec =
@@ -19,7 +19,7 @@ of-spec =
     Inv-loop
     μ-loop
     (λ c κs. search needs) (λ c. omega arith)
-    (λ c. omega arith) (λ c. omega arith) (λ c. omega arith)
+    (λ c. omega arith) (λ c. omega arith) (λ c. omega arith) (λ c. omega arith) (λ c. omega arith)
     (λ c κs. search needs) (λ c. omega arith)
     (λ c. omega arith) (λ c. omega arith) (λ c. omega arith) (λ c. omega arith) (λ c. omega arith)
     (λ c. search needs) (λ c. search needs))

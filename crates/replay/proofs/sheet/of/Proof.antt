@@ -7,10 +7,10 @@ use Rattle.replay.proofs.sheet.of.Statement.{statement}
 use Rattle.replay.proofs.sheet.of.Tie as tie
 
 abbrev Inv-loop : tie.InvT-loop
-Inv-loop item fields₀ i₀ fields i = i ≤ fieldCount
+Inv-loop mark item fields₀ i₀ fields i = i ≤ fieldCount
 
 abbrev μ-loop : tie.MeasureT-loop
-μ-loop item fields₀ i₀ fields i = fieldCount - i
+μ-loop mark item fields₀ i₀ fields i = fieldCount - i
 
 pub of-spec : {M : Type 1} → statement M
 of-spec =
@@ -20,4 +20,5 @@ of-spec =
     μ-loop
     (λ c. omega arith) (λ c. omega arith)
     (λ c κs. search needs) (λ c. omega arith)
-    (λ c. omega arith) (λ c. omega arith) (λ c. omega arith) (λ c. omega arith) (λ c. omega arith) (λ c. search needs))
+    (λ c. omega arith) (λ c. omega arith) (λ c. omega arith) (λ c. omega arith) (λ c. omega arith)
+    (λ c κs. search needs) (λ c. search needs))

@@ -27,6 +27,10 @@ not-without false v e = ap (λ (b : Bool). onlyWith b v) (sym e)
 abbrev given : tie.Start → Status
 given s = s .args .status
 
+-- the first test is far from the last return: it is found by way of the fourth
+abbrev first : tie.Else4 → tie.Else1
+first c = search needs
+
 opens : (c : tie.Else1) → wouldOpen (placeOf (given (search needs))) ≡ true
 opens c = sym (c .before .«would-open» .ensures) ∙ not-false _ (c .if1 .left)
 
@@ -92,7 +96,7 @@ returns-6 c =
     let arrived : tie.After-has-arrival = search needs in
     let both = ap (_&&_ (s .«own_sending»)) (arrived .«has-arrival» .ensures) in
     rw (
-      opens (search needs),
+      opens (first (search needs)),
       content (search needs),
       valid (search needs),
       keeps (search needs),

@@ -21,7 +21,7 @@ pub(super) fn add(plan: &mut Plan) {
 
 fn put_and_close(plan: &mut Plan, before: &ClockNumbers, line: &str, stored: i32) {
     put(plan, before);
-    close(plan, line);
+    close(plan, before.settings.mark, line);
     show(plan, &closed(before, stored));
 }
 
