@@ -7,7 +7,7 @@ use lib.IntN.{ℤ}
 use borrow.Author.Tests.{not-false}
 use Rattle.numbers.proofs.Walk.{cases, cases-in}
 use Rattle.refusal.specs.Refusal.{first, ifAccepted}
-use Rattle.refusal.proofs.FirstLaws.{first-zero, if-accepted}
+use Rattle.refusal.proofs.FirstLaws.{first-skip, first-end, first-zero, if-accepted}
 use Rattle.settings.specs.declared.Mark.{Mark}
 use Rattle.settings.specs.declared.Settings.{Settings}
 use Rattle.settings.specs.Sheet.{outOfRange, syncIdLimit, noMark}
@@ -24,7 +24,7 @@ use Rattle.list_soundness.specs.Sound.{listSound}
 use Rattle.measurements.specs.Measurements.{Taken, standsFor}
 use Rattle.clock.specs.declared.state.Clock.{Clock}
 use Rattle.clock.specs.Sound.{sound}
-use Rattle.clock.specs.State.{noClock}
+use Rattle.clock.specs.State.{fresh, noClock}
 use Rattle.clock.proofs.SoundLaws.{clauses, list-clauses}
 use Rattle.closing.specs.declared.CycleClosed.{CycleClosed}
 use Rattle.closing.specs.declared.Report.{Report}
@@ -35,7 +35,7 @@ use Rattle.clock_claims.specs.History.{Call, load, openCycle, measure, closeCyc
 use Rattle.clock_claims.specs.Histories.{Holds, MakesAll}
 use Rattle.clock_claims.specs.Witnesses.{MadeBy}
 use Rattle.clock_claims.proofs.Answers.{close-refused}
-use Rattle.clock_claims.proofs.Histories.{histories, since-load, load-fresh}
+use Rattle.clock_claims.proofs.Histories.{histories, since-load}
 use Rattle.clock_claims.proofs.Lists.{taken-marked}
 use Rattle.clock_claims.proofs.Sound.{no-clock-unsound}
 use Rattle.clock_claims.proofs.Witnesses.{closed-after-well}
@@ -204,9 +204,10 @@ report-marked calls answers d offsetControl rateControl r makes says = carried c
 -- ---- two loads
 
 pub second-empties : SecondEmpties
-second-empties c again r same says e =
-    let fresh = load-fresh again r says e in
-    (ap listed (fresh .even), ap listed (fresh .odd))
+second-empties c m d sheet again between earlier a same fits was (r, says, told, is) =
+    let zero = first-skip 17 [] fits ∙ first-end in
+    let left : d ≡ fresh again = is ∙ says .leaves ∙ if-accepted _ (fresh again) noClock zero in
+    (ap (λ (k : Clock). listed (k .even)) left, ap (λ (k : Clock). listed (k .odd)) left)
 
 pub two-loads : TwoLoads
 two-loads c m d d′ sheet again between later earlier answers answers′ same was makes makes′ =

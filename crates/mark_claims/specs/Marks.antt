@@ -15,17 +15,14 @@ use Rattle.slot.specs.declared.status.Status.{Status}
 use Rattle.sync_list.specs.Lists.{listed}
 use Rattle.measurements.specs.Measurements.{Taken, standsFor}
 use Rattle.clock.specs.declared.state.Clock.{Clock}
-use Rattle.clock.specs.declared.loading.Loaded.{Loaded}
 use Rattle.clock.specs.State.{noClock}
-use Rattle.clock.specs.Loading as loading
-use Rattle.clock.specs.Loading.{LoadSays}
 use Rattle.measuring.specs.declared.FrameMeasured.{FrameMeasured}
 use Rattle.measuring.specs.Measuring.{MeasureSays}
 use Rattle.closing.specs.declared.CycleClosed.{CycleClosed}
 use Rattle.closing.specs.Closing as closing
 use Rattle.closing.specs.Closing.{CloseSays}
 use Rattle.clock_claims.specs.History.{Call, load, openCycle, measure, closeCycle, Answer, closed, nothing, answer, pastOf}
-use Rattle.clock_claims.specs.Histories.{MakesAll}
+use Rattle.clock_claims.specs.Histories.{Makes, MakesAll}
 
 -- ---- which mark is loaded
 
@@ -83,14 +80,14 @@ ReportMarked =
 
 -- ---- two loads
 
--- A load on a clock that has settings with the same mark: the lists are empty.
+-- Whatever was measured between two loads with one mark: the second, where it is accepted, leaves both lists empty.
 abbrev pub SecondEmpties : Type 0
 SecondEmpties =
-    (c : Clock) (again : Settings) (r : Loaded) → c .settings .mark ≡ again .mark → LoadSays again r → loading.told (r .answer) .number ≡ 0
-    → (listed (r .clock .even) ≡ []) × (listed (r .clock .odd) ≡ [])
+    (c m d : Clock) (sheet again : Settings) (between : List Call) (earlier : List Answer) (a : Answer) → sheet .mark ≡ again .mark
+    → outOfRange again ≡ false → MakesAll c (load sheet ∷ between) earlier m → Makes m (load again) a d
+    → (listed (d .even) ≡ []) × (listed (d .odd) ≡ [])
 
--- Whatever was measured between two loads with one mark: from the second on all answers, reports and states are those of a clock on which
--- it is the first call of all.
+-- And from it on all answers, reports and states are those of a clock on which it is the first call of all.
 abbrev pub TwoLoads : Type 0
 TwoLoads =
     (c m d d′ : Clock) (sheet again : Settings) (between later : List Call) (earlier answers answers′ : List Answer) → sheet .mark ≡ again .mark
