@@ -1,7 +1,7 @@
 -- A list is sound exactly when the measurements that it stands for, and its rows, are as they should be.
 use Prim.Native.Nat.{ℕ, _≤_}
 use mathlib.Core.Path.{_≡_, refl, sym, ap, subst, _∙_}
-use mathlib.Core.Bool.{Bool, true, false, false≢true, not, _||_}
+use mathlib.Core.Bool.{Bool, true, false, false≢true, not, _&&_, _||_}
 use mathlib.Core.List.{List, [], _∷_, _++_, List·Memᴰ, List·Memᴰ·head, List·Memᴰ·tail, List·Memᴰ·cases-cons, List·Memᴰ·not-nil}
 use native.Mathlib.Omega.{arith}
 use borrow.Author.Tests.{eq-eqb, eqb-true, not-true}
@@ -15,15 +15,17 @@ use Rattle.base_types.specs.declared.channel.Channel.the-variants.{A, B}
 use Rattle.base_types.specs.Slot.{notAnId}
 use Rattle.settings.specs.declared.Mark.{Mark}
 use Rattle.base_types.specs.Microtick.{lowestDeviation, highestDeviation}
+use Rattle.sync_list.specs.declared.row.Measurement.{Measurement}
 use Rattle.sync_list.specs.declared.row.Measured.{Measured}
 use Rattle.sync_list.specs.declared.row.Measured.the-variants.{Nothing, Is}
 use Rattle.sync_list.specs.declared.row.Row.{Row}
 use Rattle.sync_list.specs.declared.list.SyncList.{SyncList}
 use Rattle.sync_list.specs.Rows.{isMeasured, on}
 use Rattle.sync_list.specs.Lists.{rowCount, listed, idOf, idsOf, isAmong, noneTwice}
-use Rattle.list_soundness.specs.Sound.{isInRange, rowSound, eachRow, rowsSound, carries, rowMarked, allMarked, listSound}
+use Rattle.list_soundness.specs.Sound.{isInRange, rowSound, rowsSound, carries, rowMarked, allMarked, listSound}
 use Rattle.measurements.specs.Measurements.{Taken, taken, standsFor, sameChannel}
 use Rattle.base_types.proofs.SlotLaws.{id-range}
+use Rattle.list_soundness.proofs.EachLaws.{each-member, each-by}
 use Rattle.list_soundness.proofs.RangedLaws.{Ranged, row-ranged}
 use Rattle.sync_list.proofs.AmongLaws.{none-twice}
 use Rattle.measurements.proofs.RowLaws.{row-measured, rows-ids}
@@ -34,21 +36,6 @@ use Rattle.clock_claims.proofs.TakenLaws.{list-count}
 use Rattle.clock_claims.proofs.Members.{Has, members, has-member, among-member, member-among}
 
 -- ---- from the rows to what they stand for
-
-module _ (asked : Row → Bool) where
-  -- each row is as asked, and each row that is among them
-  each-member : (rows : List Row) (row : Row) → eachRow asked rows ≡ true → List·Memᴰ row rows → asked row ≡ true
-  unfolding eachRow
-  each-member [] row s mem = absurd (List·Memᴰ·not-nil mem)
-  each-member (r ∷ rows) row s mem =
-      let both = both-true (asked r) (eachRow asked rows) s in
-      came (List·Memᴰ·cases-cons mem) (λ q. ap asked q ∙ both .0) (each-member rows row (both .1))
-
-  each-by : (rows : List Row) → ((row : Row) → List·Memᴰ row rows → asked row ≡ true) → eachRow asked rows ≡ true
-  unfolding eachRow
-  each-by [] all = refl
-  each-by (row ∷ rows) all =
-      true-both (asked row) (eachRow asked rows) (all row (List·Memᴰ·head refl)) (each-by rows (λ r mem. all r (List·Memᴰ·tail mem)))
 
 on-ranged : (row : Row) (channel : Channel) → Ranged row → isInRange (on channel row) ≡ true
 on-ranged row A r = r .on-a
@@ -91,12 +78,6 @@ module _ (mark : Mark) where
       let h = members rows m mem in
       let there = on-marked (h .row) (m .channel) (each-member (rowMarked mark) rows (h .row) s (h .among)) in
       ap (λ (n : ℕ). record { 0 = n }) (eqb-true (m .measurement .mark .0) (mark .0) (sym (ap (carries mark) (h .has .there)) ∙ there))
-
-  marked-on : (row : Row) (channel : Channel) (x : Measured) → on channel row ≡ x → ((m : Taken) → Has row m → m .measurement .mark ≡ mark) → carries mark x ≡ true
-  marked-on row channel Nothing e all = refl
-  marked-on row channel (Is d) e all =
-      eq-eqb (d .mark .0) (mark .0)
-      (ap (λ (x : Mark). x .0) (all (record { id = idOf row; channel = channel; measurement = d }) (record { id = refl; there = e })))
 
 -- no later measurement has the ID of a row that does not stand again
 once-row : (row : Row) (rows : List Row) → isAmong (idOf row) (idsOf rows) ≡ false → OncePerChannel (standsFor rows)
@@ -151,11 +132,22 @@ different-none-twice (row ∷ rows) (here, later) =
     (λ t. ap not t))
     (different-none-twice rows later)
 
-ranged-on : (row : Row) (channel : Channel) (x : Measured) → on channel row ≡ x → ((m : Taken) → Has row m → IsDeviation (m .measurement .deviation .0)) → isInRange x ≡ true
-ranged-on row channel Nothing e all = refl
-ranged-on row channel (Is d) e all =
-    let h = all (record { id = idOf row; channel = channel; measurement = d }) (record { id = refl; there = e }) in
-    true-both (leZ lowestDeviation (d .deviation .0)) (leZ (d .deviation .0) highestDeviation) (h .0) (h .1)
+-- what holds of every measurement of a row is asked of a channel, and nothing where nothing was measured
+module _ (P : Measurement → Type 0) (asked : Measured → Bool) (none : asked Nothing ≡ true) (one : (m : Measurement) → P m → asked (Is m) ≡ true) (row : Row) (all : (m : Taken) → Has row m → P (m .measurement)) where
+  holds-on : (channel : Channel) (x : Measured) → on channel row ≡ x → asked x ≡ true
+  holds-on channel Nothing e = none
+  holds-on channel (Is d) e = one d (all (record { id = idOf row; channel = channel; measurement = d }) (record { id = refl; there = e }))
+
+  holds-on-both : asked (row .«on_a») && asked (row .«on_b») ≡ true
+  holds-on-both = true-both (asked (row .«on_a»)) (asked (row .«on_b»)) (holds-on A (row .«on_a») refl) (holds-on B (row .«on_b») refl)
+
+ranged-by : (row : Row) → ((m : Taken) → Has row m → IsDeviation (m .measurement .deviation .0)) → isInRange (row .«on_a») && isInRange (row .«on_b») ≡ true
+ranged-by =
+    holds-on-both (λ m. IsDeviation (m .deviation .0)) isInRange refl
+    (λ m h. true-both (leZ lowestDeviation (m .deviation .0)) (leZ (m .deviation .0) highestDeviation) (h .0) (h .1))
+
+marked-by : (mark : Mark) (row : Row) → ((m : Taken) → Has row m → m .measurement .mark ≡ mark) → rowMarked mark row ≡ true
+marked-by mark = holds-on-both (λ m. m .mark ≡ mark) (carries mark) refl (λ m e. eq-eqb (m .mark .0) (mark .0) (ap (λ (x : Mark). x .0) e))
 
 measured-one : (a b : Measured) → (a ≡ Nothing → b ≡ Nothing → ⊥) → isMeasured a || isMeasured b ≡ true
 measured-one Nothing Nothing h = absurd (h refl refl)
@@ -175,8 +167,7 @@ row-sound-by row measured ids ranged =
     let one = measured-one (row .«on_a») (row .«on_b») measured in
     let id = id-by-one row (row .«on_a») (row .«on_b») refl refl one ids in
     true-both (not (notAnId (idOf row))) _ (ap not (id-range (idOf row) .1 (omega (arith, id .0), omega (arith, id .1))))
-    (true-both (isMeasured (row .«on_a») || isMeasured (row .«on_b»)) _ one
-    (true-both (isInRange (row .«on_a»)) (isInRange (row .«on_b»)) (ranged-on row A (row .«on_a») refl ranged) (ranged-on row B (row .«on_b») refl ranged)))
+    (true-both (isMeasured (row .«on_a») || isMeasured (row .«on_b»)) _ one (ranged-by row ranged))
 
 -- ---- the list
 
@@ -209,9 +200,5 @@ module _ (limit : ℕ) (mark : Mark) (l : SyncList) (typed : TypedList l) where
         few = subst (λ (k : ℕ). k ≤ limit) (length-map rows idOf ∙ long) (subst (λ (ids : List ℕ). length ids ≤ limit) (rows-ids rows s n) (g .few));
         rows = s;
         ids = n;
-        marks =
-            each-by (rowMarked mark) rows
-            (λ row mem.
-            let all : (m : Taken) → Has row m → m .measurement .mark ≡ mark = λ m h. g .marked m (has-member rows row m mem h) in
-            true-both (carries mark (row .«on_a»)) (carries mark (row .«on_b»)) (marked-on mark row A (row .«on_a») refl all) (marked-on mark row B (row .«on_b») refl all));
+        marks = each-by (rowMarked mark) rows (λ row mem. marked-by mark row (λ m h. g .marked m (has-member rows row m mem h)));
       })

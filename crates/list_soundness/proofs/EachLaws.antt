@@ -2,9 +2,10 @@
 use Prim.Native.Nat.{ℕ, zero, suc}
 use mathlib.Core.Path.{_≡_, refl, ap, _∙_}
 use mathlib.Core.Bool.{Bool, true, false, _&&_, and-false}
-use mathlib.Core.List.{List, [], _∷_, _++_}
+use mathlib.Core.List.{List, [], _∷_, _++_, List·Memᴰ, List·Memᴰ·head, List·Memᴰ·tail, List·Memᴰ·cases-cons, List·Memᴰ·not-nil}
 use lib.ListN.{getD, set}
 use Rattle.numbers.proofs.Truth.{both-true, true-both}
+use Rattle.numbers.proofs.Walk.{came}
 use Rattle.base_types.specs.declared.id.Slot.{Slot}
 use Rattle.sync_list.specs.declared.row.Row.{Row}
 use Rattle.sync_list.specs.Rows.{blank}
@@ -33,6 +34,20 @@ module _ (asked : Row → Bool) where
   unfolding eachRow
   not-each [] row later e = rw e
   not-each (first ∷ rows) row later e = ap (_&&_ (asked first)) (not-each rows row later e) ∙ and-false (asked first)
+
+  -- each row that is among them, and back
+  pub each-member : (rows : List Row) (row : Row) → eachRow asked rows ≡ true → List·Memᴰ row rows → asked row ≡ true
+  unfolding eachRow
+  each-member [] row s mem = absurd (List·Memᴰ·not-nil mem)
+  each-member (first ∷ rows) row s mem =
+      let h = both-true (asked first) (eachRow asked rows) s in
+      came (List·Memᴰ·cases-cons mem) (λ q. ap asked q ∙ h .0) (each-member rows row (h .1))
+
+  pub each-by : (rows : List Row) → ((row : Row) → List·Memᴰ row rows → asked row ≡ true) → eachRow asked rows ≡ true
+  unfolding eachRow
+  each-by [] all = refl
+  each-by (row ∷ rows) all =
+      true-both (asked row) (eachRow asked rows) (all row (List·Memᴰ·head refl)) (each-by rows (λ r mem. all r (List·Memᴰ·tail mem)))
 
   -- what follows of each holds of the row of an ID, if it holds of a blank one
   module _ (P : Row → Type 0) (follows : (row : Row) → asked row ≡ true → P row) where

@@ -199,8 +199,8 @@ fn measurement_by(
 ) -> Measurement
     ensures { λ r. ⌜ r ≡ measurementWith held (clock .settings) status observed «action_point» ⌝ }
 {
-    let settings = clock.settings;
-    let mark = settings.mark;
+    let loaded = clock.settings;
+    let mark = loaded.mark;
     Measurement {
         deviation: deviation_by(clock, status, observed, action_point),
         mark,
