@@ -1,6 +1,7 @@
 //! What each command is answered, and the line written for it.
 
 use crate::bench;
+use crate::checksum_pair::ChecksumPair;
 use crate::clock::{self, ClockState, Times};
 use crate::clock_numbers::ClockNumbers;
 use crate::closing::{Closing, Controls};
@@ -9,6 +10,7 @@ use crate::listening::{self, Call};
 use crate::reader::{self, Reader};
 use crate::reader_numbers::ReaderNumbers;
 use crate::refusal::Refusal;
+use crate::refused::Refused;
 use crate::script::{Command, Encode, Listen, OnChannel, Opening, Write, MEMORY};
 use crate::settings::Settings;
 use crate::slot::{self, Event, SlotStatus};
@@ -41,10 +43,10 @@ impl Default for Held {
 #[derive(Debug)]
 pub enum Answer {
     Checksum(Result<u32, Refusal>),
-    Read(Result<Fields, Refusal>, Vec<u8>),
+    Read(Result<Fields, Refused>, Vec<u8>),
     Write(Result<usize, Refusal>, Vec<u8>),
-    Bench(Result<Fields, Refusal>),
-    Encode(Result<usize, Refusal>, Vec<u8>),
+    Bench(Result<Fields, Refused>),
+    Encode(Result<usize, Refused>, Vec<u8>),
     /// With the number of the first field out of range, or 0.
     Opened(Result<(), Refusal>, usize),
     Event(Result<(), Refusal>),
@@ -93,8 +95,8 @@ impl Answer {
     pub fn refusal(&self) -> Option<Refusal> {
         match self {
             Answer::Checksum(answer) => answer.err(),
-            Answer::Read(answer, _) | Answer::Bench(answer) => answer.err(),
-            Answer::Write(answer, _) | Answer::Encode(answer, _) => answer.err(),
+            Answer::Read(..) | Answer::Bench(_) | Answer::Encode(..) => self.refused().map(|refused| refused.refusal),
+            Answer::Write(answer, _) => answer.err(),
             Answer::Opened(answer, _) | Answer::Event(answer) => answer.err(),
             Answer::Loaded(answer, _) | Answer::CycleOpened(answer) => answer.err(),
             Answer::Measured(answer) => answer.err(),
@@ -107,21 +109,39 @@ impl Answer {
         }
     }
 
+    /// A refusal of bytes that were read.
+    fn refused(&self) -> Option<Refused> {
+        match self {
+            Answer::Read(answer, _) | Answer::Bench(answer) => answer.err(),
+            Answer::Encode(answer, _) => answer.err(),
+            _ => None,
+        }
+    }
+
+    /// 02 C-18: those beside a refusal of bytes that were read. A reader of the wire tells its own, call by call.
+    pub fn checksums(&self) -> ChecksumPair {
+        self.refused().map_or(ChecksumPair::NONE, |refused| refused.checksums)
+    }
+
     /// 0 for an answer, the refusal's number otherwise.
     pub fn number(&self) -> u8 {
         self.refusal().map_or(0, Refusal::number)
     }
 
     pub fn line(&self) -> String {
-        let number = self.number();
+        let (number, checksums) = (self.number(), self.checksums());
         match self {
             // 01 "Refusal numbers": any other number that comes back is 0.
             Answer::Checksum(answer) => format!("checksum {number} {}", answer.unwrap_or(0)),
-            Answer::Read(Ok(fields), payload) => format!("read 0 {} {}", field_numbers(fields), hex(payload)),
-            Answer::Read(Err(_), payload) => format!("read {number} {}", hex(payload)),
+            Answer::Read(Ok(fields), payload) => {
+                format!("read 0 {} {} {checksums}", field_numbers(fields), hex(payload))
+            }
+            Answer::Read(Err(_), payload) => format!("read {number} {} {checksums}", hex(payload)),
             Answer::Write(answer, output) => format!("write {number} {} {}", answer.unwrap_or(0), hex(output)),
             Answer::Bench(answer) => bench::line(answer),
-            Answer::Encode(answer, output) => format!("encode {number} {} {}", answer.unwrap_or(0), hex(output)),
+            Answer::Encode(answer, output) => {
+                format!("encode {number} {} {} {checksums}", answer.unwrap_or(0), hex(output))
+            }
             Answer::Opened(_, field) => format!("slot {number} {field}"),
             Answer::Event(_) => format!("event {number}"),
             Answer::StatusPut => "status put".to_string(),

@@ -2,6 +2,7 @@
 
 mod bench;
 mod borders;
+mod both_checksums;
 mod checksums;
 pub mod clock;
 mod damage;
@@ -27,10 +28,11 @@ mod writing;
 use crate::mixture;
 use crate::plan::{Expected, Plan};
 use crate::random::Random;
-use crate::script::Command;
+use crate::script::{Command, Letters};
 
 pub use bench::SHORT_INPUTS;
 pub use borders::{BORDERS, LOOKS};
+pub use both_checksums::{OF_HEADER, OF_TRAILER, SIZES as WRONG_CHECKSUM_SIZES};
 pub use listed::CHECK_VALUES;
 pub use listed_frames::{HEADER_CHECKSUMS, HEADER_REMAINDERS, REMAINDER};
 pub use null_frames::{BYTES, CANCELLING, NULL_FLAGS, SIZES, WRONG_SIZES};
@@ -70,6 +72,7 @@ pub fn all() -> Plan {
     add_slot_mixture(&mut plan, &mut random);
     second_frames::add(&mut plan, &mut random);
     null_frames::add(&mut plan, &mut random);
+    both_checksums::add(&mut plan, &mut random);
     // Behind everything about slots: the first of these finds no clock loaded.
     clock::add(&mut plan, &mut random);
     add_clock_mixture(&mut plan, &mut random);
@@ -77,6 +80,21 @@ pub fn all() -> Plan {
     reader::add(&mut plan, &mut random);
     add_reader_mixture(&mut plan, &mut random);
     plan
+}
+
+/// 02 C-18: those about frames that a player of frames knows.
+pub fn frames() -> Plan {
+    let mut random = Random::from_seed(SEED);
+    let mut plan = Plan::default();
+    listed::add(&mut plan, &mut random);
+    listed_frames::add(&mut plan, &mut random);
+    checksums::add(&mut plan, &mut random);
+    sizes::add(&mut plan, &mut random);
+    reading::add(&mut plan, &mut random);
+    bench::add(&mut plan, &mut random);
+    both_checksums::add_frames(&mut plan, &mut random);
+    add_mixture(&mut plan, &mut random);
+    plan.known_to(Letters::Frames)
 }
 
 fn add_mixture(plan: &mut Plan, random: &mut Random) {

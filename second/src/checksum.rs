@@ -48,6 +48,13 @@ impl Polynomial {
         bits::number(&dividend[message.len()..])
     }
 
+    /// The division backwards: the start value with which as many zeros as the width have this checksum.
+    pub fn before_zeros(&self, checksum: u32) -> u32 {
+        // The lowest term of each polynomial is 1: where the last bit is 1, it was taken away in the last step.
+        let step_back = |value: u32| if value & 1 == 1 { (value ^ self.times(1)) >> 1 } else { value >> 1 };
+        (0..self.width()).fold(checksum, |value, _| step_back(value))
+    }
+
     fn mix_in(&self, start: u32, dividend: &mut [bool]) {
         for (bit, change) in dividend.iter_mut().zip(bits::of_number(start, self.width())) {
             *bit ^= change;
@@ -120,6 +127,17 @@ mod tests {
     fn nothing_to_divide_leaves_the_start_value() {
         assert_eq!(FRAME.checksum(0xFEDCBA, &[]), 0xFEDCBA);
         assert_eq!(HEADER.checksum(0x01A, &[]), 0x01A);
+    }
+
+    #[test]
+    fn zeros_lead_there_and_back() {
+        let mut random = Random::from_seed(12);
+        for _ in 0..400 {
+            let value = random.below(1 << 24) as u32;
+            assert_eq!(FRAME.checksum(FRAME.before_zeros(value), &[false; 24]), value);
+            let value = value & 0x7FF;
+            assert_eq!(HEADER.before_zeros(HEADER.checksum(value, &[false; 11])), value);
+        }
     }
 
     #[test]

@@ -1,6 +1,7 @@
 //! Clock commands in which the asked-for refusals have their cause, with the states that they are given on.
 
 use crate::channel::Channel;
+use crate::checksum_pair::ChecksumPair;
 use crate::clock::{Times, LATEST};
 use crate::clock_numbers::{ClockNumbers, ListNumbers};
 use crate::clock_scene::{fair_clock, row_on, settings_with_static, status_with, sync_status, HIGHEST_SYNC_ID};
@@ -157,11 +158,13 @@ pub fn wrong_times(random: &mut Random) -> Times {
 }
 
 fn one_unsound(random: &mut Random, clock: ClockNumbers, status: StatusNumbers) -> (ClockNumbers, StatusNumbers) {
-    if random.coin() {
-        return (unsound(random, clock), status);
+    match random.below(4) {
+        0 | 1 => (unsound(random, clock), status),
+        // "Conflict" without own sending.
+        2 => (clock, StatusNumbers { marks: status.marks ^ 8, ..status }),
+        // 02 C-18: checksums without "syntax error".
+        _ => (clock, StatusNumbers { checksums: ChecksumPair::some(random), ..status }),
     }
-    // "Conflict" without own sending.
-    (clock, StatusNumbers { marks: status.marks ^ 8, ..status })
 }
 
 /// The state with one thing wrong; a list is made to hold something where the cause asks for it.

@@ -1,12 +1,13 @@
 //! Clock commands at random: lifelike cycles from a load on, or from a clock state that was put.
 
 use crate::channel::Channel;
+use crate::checksum_pair::ChecksumPair;
 use crate::clock::Times;
 use crate::clock_faults::{
     fair_controls, fair_times, unsound, wrong_controls, wrong_times, wrongly_marked, LONGEST_CYCLE,
 };
 use crate::clock_numbers::ClockNumbers;
-use crate::clock_scene::{doubled, fair_clock, some_ids, sync_status, HIGHEST_SYNC_ID};
+use crate::clock_scene::{behind_syntax_error, doubled, fair_clock, some_ids, sync_status, HIGHEST_SYNC_ID};
 use crate::draft::fair_cycle;
 use crate::faults::{wrong_cycle, wrong_value};
 use crate::frame::HIGHEST_CYCLE;
@@ -15,6 +16,7 @@ use crate::scene::{fair_settings, Kind, Scene};
 use crate::script::Command;
 use crate::settings::{Settings, FIELDS, RATE_LIMIT, STATIC_WORDS};
 use crate::sheet_mark::SheetMark;
+use crate::status_numbers::StatusNumbers;
 use crate::sync_list::PLACES;
 
 const MOST_CYCLES: usize = 5;
@@ -137,9 +139,10 @@ fn one_frame(random: &mut Random, cluster: &Cluster, id: u16, channel: Channel, 
     let cycle = if random.one_in(30) { fair_cycle(random) } else { cycle };
     let mut put = sync_status(random, channel, id, cycle);
     put.settings = cluster.mark_some(random, put.settings);
-    let mut commands = match random.below(10) {
+    let mut commands = match random.below(11) {
         0 | 1 => vec![Command::PutStatus(put)],
         2 => vec![Command::PutStatus(doubled(put))],
+        3 => vec![Command::PutStatus(with_checksums(random, put))],
         _ => slot_of_frame(random, channel, put.settings, id, cycle),
     };
     let times = match random.below(24) {
@@ -152,6 +155,15 @@ fn one_frame(random: &mut Random, cluster: &Cluster, id: u16, channel: Channel, 
         commands.extend([Command::Measure(times), Command::Show]);
     }
     commands
+}
+
+/// 02 C-18: behind a syntax error as a rule, without which they are not sound.
+fn with_checksums(random: &mut Random, status: StatusNumbers) -> StatusNumbers {
+    let checksums = ChecksumPair::some(random);
+    if random.one_in(4) {
+        return StatusNumbers { checksums, ..status };
+    }
+    behind_syntax_error(status, checksums)
 }
 
 fn slot_of_frame(random: &mut Random, channel: Channel, settings: Settings, id: u16, cycle: u8) -> Vec<Command> {
@@ -229,6 +241,21 @@ mod tests {
             _ => false,
         };
         assert!(some_outcomes().windows(2).filter(measured).count() > 50);
+    }
+
+    /// 02 C-18: statuses with checksums are measured where they have a syntax error as well, and refused where they haven't.
+    #[test]
+    fn some_statuses_have_checksums() {
+        let measured = |pair: &[Outcome]| match pair {
+            [Outcome::Answered(Command::PutStatus(put), _), Outcome::Answered(Command::Measure(_), answer)] => {
+                (!put.checksums.is_none()).then_some((put.marks & 1, answer.number()))
+            }
+            _ => None,
+        };
+        let answers: Vec<(u8, u8)> = some_outcomes().windows(2).filter_map(measured).collect();
+        let count = |answer| answers.iter().filter(|other| **other == answer).count();
+        assert!(count((1, 0)) > 50 && count((0, 23)) > 20, "{} and {}", count((1, 0)), count((0, 23)));
+        assert_eq!(count((0, 0)), 0);
     }
 
     /// 02 C-17: sheets with the mark that is held and with others take the place of lists in the middle of a cycle, statuses

@@ -1,6 +1,7 @@
 //! Clock states made for a case, and slot statuses to be measured with them.
 
 use crate::channel::Channel;
+use crate::checksum_pair::ChecksumPair;
 use crate::clock_numbers::{ClockNumbers, ListNumbers, RowNumbers};
 use crate::draft::fair_cycle;
 use crate::frame::{HIGHEST_CYCLE, HIGHEST_ID};
@@ -164,13 +165,19 @@ pub fn sync_status(random: &mut Random, channel: Channel, id: u16, cycle: u8) ->
 pub fn status_with(settings: Settings, channel: Channel, id: u16, cycle: u8, flags: u8) -> StatusNumbers {
     let words = settings.field(STATIC_WORDS) as u8;
     let header = HeaderNumbers { flags, id, words, checksum: 0, cycle }.with_right_checksum();
-    StatusNumbers { settings, channel, slot: id, cycle, marks: Mark::Valid.bit(), reason: 0, kept: true, header }
+    let opened = StatusNumbers { settings, channel, slot: id, cycle, ..StatusNumbers::default() };
+    StatusNumbers { marks: Mark::Valid.bit(), kept: true, header, ..opened }
 }
 
 /// 02 C-15: what a second good frame leaves of a status that holds one.
 pub fn doubled(status: StatusNumbers) -> StatusNumbers {
     let marks = status.marks | Mark::ContentError.bit();
     StatusNumbers { marks, reason: Reason::SecondGoodFrame.number(), ..status }
+}
+
+/// 02 C-18: what a syntax error that told these checksums leaves of it.
+pub fn behind_syntax_error(status: StatusNumbers, checksums: ChecksumPair) -> StatusNumbers {
+    StatusNumbers { marks: status.marks | Mark::SyntaxError.bit(), checksums, ..status }
 }
 
 #[cfg(test)]
@@ -186,7 +193,8 @@ mod tests {
             let channel = random.pick(&Channel::BOTH);
             let id = random.between(1, HIGHEST_SYNC_ID.into()) as u16;
             let numbers = sync_status(&mut random, channel, id, clock.cycle);
-            for status in [numbers, doubled(numbers)].map(|numbers| numbers.status()) {
+            let behind = behind_syntax_error(numbers, ChecksumPair::any(&mut random));
+            for status in [numbers, doubled(numbers), behind].map(|numbers| numbers.status()) {
                 assert!(status.is_sound() && status.is_static());
             }
         }

@@ -1,8 +1,9 @@
-//! From strobed bits to frames (02 C-13; 002, sections 3.2.6, 3.2.7 and 3.3.6), one bit at a time.
+//! From strobed bits to frames (02 C-13 and C-18; 002, sections 3.2.6, 3.2.7 and 3.3.6), one bit at a time.
 
 use crate::channel::Channel;
 use crate::frame::{self, Fields, HEADER_BYTES, LARGEST_FRAME, SMALLEST_FRAME};
 use crate::refusal::Refusal;
+use crate::refused::Refused;
 
 /// 002, section 3.2.6: two low bits more than the longest start has.
 pub const MOST_LOW_BITS: u8 = 17;
@@ -35,7 +36,7 @@ pub enum Told {
     Nothing,
     /// With its size and the samples since its reference point.
     Frame(Fields, usize, u32),
-    Error(Refusal),
+    Error(Refused),
 }
 
 /// Where in a frame the reader is.
@@ -78,21 +79,21 @@ impl Decoder {
             (Phase::Waiting, false) if idle => self.go_on(Decoder::without_bytes(Phase::Start(1))),
             (Phase::Waiting, _) => Told::Nothing,
             (Phase::Start(_), true) => self.go_on(Decoder::without_bytes(Phase::FrameStart(1))),
-            (Phase::Start(MOST_LOW_BITS), false) => self.fail(Refusal::LongStart),
+            (Phase::Start(MOST_LOW_BITS), false) => self.fail(Refusal::LongStart.into()),
             (Phase::Start(low), false) => self.go_on(Decoder::without_bytes(Phase::Start(low + 1))),
-            (Phase::FrameStart(MOST_HIGH_BITS), true) => self.fail(Refusal::LongFrameStart),
+            (Phase::FrameStart(MOST_HIGH_BITS), true) => self.fail(Refusal::LongFrameStart.into()),
             (Phase::FrameStart(high), true) => self.go_on(Decoder::without_bytes(Phase::FrameStart(high + 1))),
             // The reference point, from which samples are counted.
             (Phase::FrameStart(_), false) => self.go_on(Decoder::without_bytes(Phase::Byte(0, 0))),
             (Phase::ByteStartHigh, true) => self.turn_to(Phase::ByteStartLow),
-            (Phase::ByteStartHigh, false) => self.fail(Refusal::ByteStartLow),
+            (Phase::ByteStartHigh, false) => self.fail(Refusal::ByteStartLow.into()),
             (Phase::ByteStartLow, false) => self.turn_to(Phase::Byte(0, 0)),
-            (Phase::ByteStartLow, true) => self.fail(Refusal::ByteStartHigh),
+            (Phase::ByteStartLow, true) => self.fail(Refusal::ByteStartHigh.into()),
             (Phase::Byte(bits, value), _) => self.take_bit(bits + 1, value << 1 | u8::from(high), memory),
             (Phase::EndLow, false) => self.judge(channel, memory),
-            (Phase::EndLow, true) => self.fail(Refusal::EndHigh),
+            (Phase::EndLow, true) => self.fail(Refusal::EndHigh.into()),
             (Phase::EndHigh, true) => self.go_on(Decoder::waiting()),
-            (Phase::EndHigh, false) => self.fail(Refusal::EndLow),
+            (Phase::EndHigh, false) => self.fail(Refusal::EndLow.into()),
         }
     }
 
@@ -107,7 +108,7 @@ impl Decoder {
     }
 
     /// Behind an error the reader waits.
-    fn fail(&mut self, error: Refusal) -> Told {
+    fn fail(&mut self, error: Refused) -> Told {
         *self = Decoder::waiting();
         Told::Error(error)
     }
@@ -123,8 +124,11 @@ impl Decoder {
 
     /// What comes behind a whole byte, these being all so far.
     fn follow_byte(&mut self, bytes: &[u8]) -> Told {
-        if bytes.len() == HEADER_BYTES && header_differs(bytes) {
-            return self.fail(Refusal::HeaderChecksum);
+        if bytes.len() == HEADER_BYTES {
+            let checksums = frame::header_checksums(bytes);
+            if checksums.differs() {
+                return self.fail(Refused { refusal: Refusal::HeaderChecksum, checksums });
+            }
         }
         let phase = if is_whole(bytes) { Phase::EndLow } else { Phase::ByteStartHigh };
         self.turn_to(phase)
@@ -134,7 +138,7 @@ impl Decoder {
     fn judge(&mut self, channel: Channel, memory: &[u8]) -> Told {
         let bytes = &memory[..self.count.into()];
         match frame::read(channel.number(), bytes) {
-            Err(refusal) => self.fail(refusal),
+            Err(refused) => self.fail(refused),
             Ok(fields) => {
                 let since = self.since;
                 *self = Decoder::without_bytes(Phase::EndHigh);
@@ -171,11 +175,6 @@ impl Decoder {
     }
 }
 
-fn header_differs(header: &[u8]) -> bool {
-    let fields = frame::header_in(header);
-    fields.header_checksum != fields.right_header_checksum()
-}
-
 /// Whether there are at least as many bytes as the header says; before a whole header nothing is said yet.
 fn is_whole(bytes: &[u8]) -> bool {
     bytes.len() >= HEADER_BYTES && bytes.len() >= frame::header_in(bytes).frame_size()
@@ -184,6 +183,7 @@ fn is_whole(bytes: &[u8]) -> bool {
 #[cfg(test)]
 mod tests {
     use super::*;
+    use crate::checksum_pair::ChecksumPair;
     use crate::listed_frames::SHORT;
 
     /// Plays bits, written as digits, on channel A.
@@ -218,26 +218,34 @@ mod tests {
         assert_eq!(decoder, Decoder::waiting());
     }
 
+    fn with_checksums(refusal: Refusal, found: u32, expected: u32) -> Refused {
+        Refused { refusal, checksums: ChecksumPair { found, expected } }
+    }
+
+    /// 02 C-18: of a sync frame of ID 1 the header checksum would be 0x35D.
     #[test]
     fn every_error_by_hand() {
         let low = |bits| "0".repeat(bits);
+        let header = with_checksums(Refusal::HeaderChecksum, 0x69F, 0x35D);
+        let trailer = with_checksums(Refusal::FrameChecksum, 0xD05EEB, 0xD05EEA);
         let cases = [
             (format!("{} 1", low(17)), None),
-            (low(18), Some(Refusal::LongStart)),
+            (low(18), Some(Refusal::LongStart.into())),
             ("0 111 0".to_string(), None),
-            ("0 1111".to_string(), Some(Refusal::LongFrameStart)),
-            (format!("{FRONT} 00100000 0"), Some(Refusal::ByteStartLow)),
-            (format!("{FRONT} 00100000 11"), Some(Refusal::ByteStartHigh)),
+            ("0 1111".to_string(), Some(Refusal::LongFrameStart.into())),
+            (format!("{FRONT} 00100000 0"), Some(Refusal::ByteStartLow.into())),
+            (format!("{FRONT} 00100000 11"), Some(Refusal::ByteStartHigh.into())),
             (format!("{FRONT} {}1", &HEADER[..HEADER.len() - 1]), None),
-            (format!("{FRONT} 00110000{}", &HEADER[8..]), Some(Refusal::HeaderChecksum)),
-            (format!("{FRONT} {HEADER} {TRAILER} 1"), Some(Refusal::EndHigh)),
-            (format!("{FRONT} {HEADER} {}1 0", &TRAILER[..TRAILER.len() - 1]), Some(Refusal::FrameChecksum)),
+            (format!("{FRONT} 00110000{}", &HEADER[8..]), Some(header)),
+            (format!("{FRONT} {HEADER} {TRAILER} 1"), Some(Refusal::EndHigh.into())),
+            (format!("{FRONT} {HEADER} {}1 0", &TRAILER[..TRAILER.len() - 1]), Some(trailer)),
         ];
         for (bits, error) in cases {
             assert_eq!(told_by(&bits), Vec::from_iter(error.map(Told::Error)), "{bits}");
         }
         let both = told_by(&format!("{FRONT} {HEADER} {TRAILER} 0 0"));
-        assert!(matches!(both[..], [Told::Frame(..), Told::Error(Refusal::EndLow)]));
+        assert!(matches!(both[0], Told::Frame(..)));
+        assert_eq!(both[1..], [Told::Error(Refusal::EndLow.into())]);
     }
 
     #[test]

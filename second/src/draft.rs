@@ -2,6 +2,8 @@
 
 use crate::bits;
 use crate::channel::Channel;
+use crate::checksum::FRAME;
+use crate::checksum_pair::ChecksumPair;
 use crate::frame::{self, Fields, Indicators, HIGHEST_CYCLE, HIGHEST_ID, MOST_WORDS, TRAILER_BYTES};
 use crate::random::Random;
 use crate::script::{OnChannel, Write};
@@ -90,6 +92,37 @@ impl Draft {
         frame
     }
 
+    /// The same frame with the ID for which this header checksum is right, which may be 0.
+    pub fn with_id_for(self, checksum: u16) -> Draft {
+        let fields = self.fields();
+        let right = |id: &u16| Fields { id: *id, ..fields }.right_header_checksum() == checksum;
+        // The ID has as many bits as the header checksum, so that each of these belongs to one.
+        let id = (0..=HIGHEST_ID).find(right).expect("some ID has this header checksum");
+        Draft { id, ..self }
+    }
+
+    /// The same frame with other last bytes in its payload, which has four at least, so that this frame checksum is right.
+    pub fn with_frame_checksum(mut self, checksum: u32) -> Draft {
+        let (bytes, last) = (self.bytes(), self.payload.len() - TRAILER_BYTES);
+        let before = frame::checksum_on(self.channel, &bytes[..bytes.len() - 2 * TRAILER_BYTES]);
+        // As many bits as the checksum has turn one of them into any other.
+        let turning = before ^ FRAME.before_zeros(checksum);
+        self.payload.splice(last.., bits::to_bytes(&bits::of_number(turning, 8 * TRAILER_BYTES)));
+        self
+    }
+
+    /// 02 C-18: the header checksum in the bytes, and the right one.
+    pub fn header_checksums(&self) -> ChecksumPair {
+        let found = self.fields().header_checksum;
+        ChecksumPair { found: found.into(), expected: (found ^ self.header_checksum_change).into() }
+    }
+
+    /// The trailer in the bytes, and the right one on this channel.
+    pub fn frame_checksums_on(&self, channel: Channel) -> ChecksumPair {
+        let right = Draft { channel, frame_checksum_change: 0, ..self.clone() };
+        ChecksumPair { found: trailer_of(&self.bytes()), expected: trailer_of(&right.bytes()) }
+    }
+
     pub fn on_channel(&self) -> OnChannel {
         OnChannel { channel: self.channel.number(), bytes: self.bytes() }
     }
@@ -98,6 +131,11 @@ impl Draft {
     pub fn again(&self) -> Write {
         Write::again(&self.on_channel()).expect("a good frame is accepted")
     }
+}
+
+/// The last three bytes as a number.
+fn trailer_of(frame: &[u8]) -> u32 {
+    frame[frame.len() - TRAILER_BYTES..].iter().fold(0, |number, byte| number << 8 | u32::from(*byte))
 }
 
 /// Any of the five bits, but never startup without sync.
@@ -137,4 +175,42 @@ pub fn foreign_channel(random: &mut Random) -> u8 {
         return random.pick(&FOREIGN_CHANNELS);
     }
     random.between(2, 255) as u8
+}
+
+#[cfg(test)]
+mod tests {
+    use super::*;
+    use crate::listed_frames::{LONG, SHORT, STARTUP};
+
+    #[test]
+    fn checksums_by_hand() {
+        let short = Draft::plain(Channel::A, SHORT.flags, SHORT.id, 0, SHORT.cycle);
+        let pair = |found, expected| ChecksumPair { found, expected };
+        assert_eq!(short.frame_checksums_on(Channel::A), pair(0xD05EEA, 0xD05EEA));
+        assert_eq!(short.frame_checksums_on(Channel::B), pair(0xD05EEA, 0x3BD08F));
+        let changed = Draft { header_checksum_change: 0x400, frame_checksum_change: 0xD05EEA, ..short };
+        assert_eq!(changed.header_checksums(), pair(0x29F, 0x69F));
+        let changed = Draft { header_checksum_change: 0, ..changed };
+        assert_eq!(changed.frame_checksums_on(Channel::A), pair(0, 0xD05EEA));
+        assert_eq!(changed.header_checksums(), pair(0x69F, 0x69F));
+    }
+
+    /// Payload and ID of frames that are known whole.
+    #[test]
+    fn checksums_as_wanted() {
+        for channel in Channel::BOTH {
+            let plain = Draft::plain(channel, STARTUP.flags, STARTUP.id, 2, STARTUP.cycle);
+            let startup = Draft { payload: STARTUP.payload.to_vec(), ..plain.clone() };
+            let found = trailer_of(&STARTUP.bytes(channel));
+            let front = Draft { payload: vec![1, 0, 0, 0], ..plain };
+            assert_eq!(front.with_frame_checksum(found), startup);
+            for wanted in [0, 1, 9_999_999, 10_000_000, 0xFF_FFFF] {
+                let draft = startup.clone().with_frame_checksum(wanted);
+                assert_eq!(draft.frame_checksums_on(channel), ChecksumPair { found: wanted, expected: wanted });
+            }
+            let long = Draft::plain(channel, LONG.flags, 1, MOST_WORDS, LONG.cycle);
+            assert_eq!(long.with_id_for(309).id, HIGHEST_ID);
+        }
+        assert_eq!(Draft::plain(Channel::A, SHORT.flags, SHORT.id, 0, 0).with_id_for(0).id, 104);
+    }
 }

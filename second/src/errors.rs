@@ -1,19 +1,22 @@
 //! Small scripts for every kind of script error, each with the lines written by hand.
 
 mod clock;
+mod frames;
 mod gate;
 mod reader;
 mod sizes;
 
 use crate::channel::Channel;
+use crate::checksum_pair::ChecksumPair;
 use crate::listed_frames::SHORT;
 use crate::replay::{self, Outcome, Replay};
-use crate::script::{Broken, Cause, Command, Encode, Opening, Write, LIMIT};
+use crate::script::{Broken, Cause, Command, Encode, Letters, Opening, Write, LIMIT};
 use crate::settings::{Settings, FIELDS};
 use crate::sheet_mark::SheetMark;
 use crate::status_numbers::{HeaderNumbers, StatusNumbers};
 
 pub use clock::{CLOSED, OPEN};
+pub use frames::of_frames;
 pub use gate::one_of_each;
 pub use reader::{PHASE, READER_CHANNEL, REALIGNS, VOTED};
 
@@ -27,11 +30,16 @@ pub struct Small {
 impl Small {
     /// How the script is broken, or what is wrong with its lines or with the cause.
     pub fn play(&self) -> Result<Option<Broken>, String> {
-        let text = replay::text(&self.script);
+        self.play_by(Letters::All)
+    }
+
+    /// The same by a player that knows these letters.
+    pub fn play_by(&self, letters: Letters) -> Result<Option<Broken>, String> {
+        let text = replay::text_by(letters, &self.script);
         if text != self.text {
             return Err(format!("{:02x?} should give {:?} and gave {text:?}", self.script, self.text));
         }
-        let found = Replay::of(&self.script).find_map(|outcome| match outcome {
+        let found = Replay::by(letters, &self.script).find_map(|outcome| match outcome {
             Outcome::ScriptError(_, broken) => Some(broken),
             Outcome::Answered(..) => None,
         });
@@ -61,24 +69,25 @@ const OPENING: Opening = Opening { settings: SETTINGS, channel: 0, slot: 1, cycl
 /// Bytes that begin no command: the letters in lower case, the capitals that have no command, and some others.
 pub const UNKNOWN_LETTERS: &[u8] = b"frwpesabxtlomckdhyvzGIJNQU\x00\n ?\x80\xFF";
 
-/// A status in which the frame above is kept.
+/// A status in which the frame above is kept, behind a syntax error that told checksums.
 const STATUS: StatusNumbers = StatusNumbers {
     settings: SETTINGS,
     channel: Channel::A,
     slot: 1,
     cycle: 0,
-    marks: 16,
+    marks: 17,
     reason: 0,
     kept: true,
     header: HeaderNumbers { flags: 0b00100, id: 1, words: 0, checksum: 0x69F, cycle: 0 },
+    checksums: ChecksumPair { found: 0x69E, expected: 0x69F },
 };
 
 /// Its line.
-const STATUS_SHOWN: &str = "status 1 2 3 4 5 6 7 8 9 0 11 1 0 1 0 16 0 1 4 1 0 1695 0 305419896\n";
+const STATUS_SHOWN: &str = "status 1 2 3 4 5 6 7 8 9 0 11 1 0 1 0 17 0 1 4 1 0 1695 0 305419896 1694 1695\n";
 
 /// The lines of the states of all zeros.
 const ZERO_CLOCK: &str = "clock 0 0 0 0 0 0 0 0 0 0 0 0 0 0 0 0 0 EVEN 0 ODD 0 0 EVEN ODD\n";
-const ZERO_STATUS: &str = "status 0 0 0 0 0 0 0 0 0 0 0 0 0 0 0 0 0 0 0 0 0 0 0 0\n";
+const ZERO_STATUS: &str = "status 0 0 0 0 0 0 0 0 0 0 0 0 0 0 0 0 0 0 0 0 0 0 0 0 0 0\n";
 
 pub fn all() -> Vec<Small> {
     let mut all = vec![whole(&[], "")];
@@ -122,21 +131,21 @@ fn good_ones() -> Vec<(Vec<u8>, String)> {
     let line = |line: &str| line.to_string();
     let mut commands = vec![
         (Command::checksum(0, b"123456789"), line("checksum 0 7961021\n")),
-        (Command::read(0, &frame()), line("read 0 0 0 1 0 0 1 0 1695 0 -\n")),
+        (Command::read(0, &frame()), line("read 0 0 0 1 0 0 1 0 1695 0 - 0 0\n")),
         (Command::Write(write), line("write 0 8 200101a7c0d05eeaa5\n")),
         (Command::bench(0, &frame()), line("accepted 1 0 0\n")),
-        (Command::Encode(encode()), line("encode 0 84 62080601a9ec0b425eba90a5\n")),
+        (Command::Encode(encode()), line("encode 0 84 62080601a9ec0b425eba90a5 0 0\n")),
         (Command::OwnSending, line("event 23\n")),
         (Command::OpenSlot(OPENING), line("slot 0 0\n")),
         (Command::Boundary, line("event 0\n")),
         (Command::Arrived(frame()), line("event 0\n")),
-        (Command::Show, shown("status 1 2 3 4 5 6 7 8 9 0 11 1 0 1 0 20 0 1 4 1 0 1695 0 305419896\n")),
+        (Command::Show, shown("status 1 2 3 4 5 6 7 8 9 0 11 1 0 1 0 20 0 1 4 1 0 1695 0 305419896 0 0\n")),
         (Command::PutStatus(STATUS), line("status put\n")),
         (Command::OwnSending, line("event 0\n")),
     ];
     commands.extend(clock::good_ones());
     commands.extend([
-        (Command::Show, shown("status 1 2 3 4 5 6 7 8 9 0 11 1 0 1 0 56 0 1 4 1 0 1695 0 305419896\n")),
+        (Command::Show, shown("status 1 2 3 4 5 6 7 8 9 0 11 1 0 1 0 57 0 1 4 1 0 1695 0 305419896 1694 1695\n")),
         (Command::OpenSlot(Opening { channel: 2, ..OPENING }), line("slot 1 0\n")),
         (Command::Show, shown(ZERO_STATUS)),
     ]);
@@ -202,6 +211,9 @@ const MARKS: usize = CHANNEL + 4;
 const REASON: usize = MARKS + 1;
 pub const KEPT: usize = REASON + 1;
 const FLAGS: usize = KEPT + 1;
+/// Flags, ID (2), words, checksum (2) and cycle of the kept frame and the mark (4) stand between.
+const FOUND: usize = FLAGS + 11;
+const EXPECTED: usize = FOUND + 4;
 
 /// The bytes of a command with one of them changed.
 fn changed(command: &Command, place: usize, byte: u8) -> Vec<u8> {
@@ -241,10 +253,21 @@ fn no_errors() -> Vec<Small> {
     let mut all: Vec<Small> =
         [2, 255].map(|byte| with_byte(&open, CHANNEL, byte, &format!("slot 1 0\n{}", shown(ZERO_STATUS)))).into();
     let same = format!("status put\n{}", shown(STATUS_SHOWN));
-    all.push(with_byte(&put, MARKS, 0b1101_0000, &same));
+    all.push(with_byte(&put, MARKS, 0b1101_0001, &same));
     all.push(with_byte(&put, FLAGS, 0b1110_0100, &same));
-    let last_reason = shown("status 1 2 3 4 5 6 7 8 9 0 11 1 0 1 0 16 6 1 4 1 0 1695 0 305419896\n");
-    all.push(with_byte(&put, REASON, 6, &format!("status put\n{last_reason}")));
+    let put_and_shown = |line: String| format!("status put\n{}", shown(&line));
+    let last_reason = STATUS_SHOWN.replace(" 17 0 1 4 ", " 17 6 1 4 ");
+    all.push(with_byte(&put, REASON, 6, &put_and_shown(last_reason)));
+    // 02 C-18: checksums may be any, also without "syntax error".
+    for (place, byte, numbers) in [
+        (FOUND, 0xFF, "1791 1695"),
+        (FOUND + 3, 0x80, "2147485342 1695"),
+        (EXPECTED, 0, "1694 1536"),
+        (EXPECTED + 3, 0xFF, "1694 4278191775"),
+    ] {
+        all.push(with_byte(&put, place, byte, &put_and_shown(STATUS_SHOWN.replace("1694 1695", numbers))));
+    }
+    all.push(with_byte(&put, MARKS, 16, &put_and_shown(STATUS_SHOWN.replace(" 17 0 1 4 ", " 16 0 1 4 "))));
     all
 }
 

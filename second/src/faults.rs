@@ -9,6 +9,7 @@ use crate::refusal::Refusal;
 use crate::scene::Scene;
 use crate::script::{Command, Encode, OnChannel, Opening, Write, LIMIT};
 use crate::settings::{self, FIELDS};
+use crate::unreadable::number_of_any_length;
 use crate::wire::{self, START_LENGTHS};
 
 /// Every selection from an order, the empty one first; each keeps the order.
@@ -53,13 +54,13 @@ fn faulty_frame(random: &mut Random, faults: &[Refusal]) -> OnChannel {
     let channel = random.pick(&Channel::BOTH);
     let words = fair_words(random);
     let fair = Draft::fair(random, channel, words);
-    let bytes = faulty_bytes(random, fair, faults);
+    let wrong = faulty_draft(random, fair, faults);
+    let bytes = cut_short(random, wrong.bytes(), faults);
     OnChannel { channel: channel_number(random, channel, faults), bytes }
 }
 
-/// The bytes of a frame, with a cause in them for each of the named refusals but that of the channel.
-pub fn faulty_bytes(random: &mut Random, fair: Draft, faults: &[Refusal]) -> Vec<u8> {
-    let mut bytes = faulty_draft(random, fair, faults).bytes();
+/// All bytes of a frame, or fewer than any has where there has to be a cause for 2.
+pub fn cut_short(random: &mut Random, mut bytes: Vec<u8>, faults: &[Refusal]) -> Vec<u8> {
     if faults.contains(&Refusal::TooFewBytes) {
         // An odd size below 8 has the causes of both 2 and 3.
         bytes.truncate(2 * random.below(4) + usize::from(faults.contains(&Refusal::Size)));
@@ -67,7 +68,8 @@ pub fn faulty_bytes(random: &mut Random, fair: Draft, faults: &[Refusal]) -> Vec
     bytes
 }
 
-fn faulty_draft(random: &mut Random, mut draft: Draft, faults: &[Refusal]) -> Draft {
+/// A frame with a cause in it for each of the named refusals but those of the channel and of too few bytes.
+pub fn faulty_draft(random: &mut Random, mut draft: Draft, faults: &[Refusal]) -> Draft {
     draft.indicators = with_startup_fault(draft.indicators, faults);
     if faults.contains(&Refusal::Size) {
         draft.payload = misfit_payload(random);
@@ -79,12 +81,23 @@ fn faulty_draft(random: &mut Random, mut draft: Draft, faults: &[Refusal]) -> Dr
         draft.id = 0;
     }
     if faults.contains(&Refusal::HeaderChecksum) {
-        draft.header_checksum_change = random.between(1, 0x7FF) as u16;
+        let right = draft.header_checksums().expected;
+        draft.header_checksum_change = turned_over(random, right, 11) as u16;
     }
     if faults.contains(&Refusal::FrameChecksum) {
-        draft.frame_checksum_change = random.between(1, 0xFF_FFFF) as u32;
+        let right = draft.frame_checksums_on(draft.channel).expected;
+        draft.frame_checksum_change = turned_over(random, right, 24);
     }
     draft
+}
+
+/// Bits of a checksum that are turned over: one, any, or those that leave a small number or 0.
+fn turned_over(random: &mut Random, right: u32, width: u32) -> u32 {
+    let found = if random.coin() { number_of_any_length(random, width) } else { right };
+    if found == right {
+        return 1 << random.below(width as usize);
+    }
+    found ^ right
 }
 
 /// A payload that makes the frame's size odd, or longer than any frame.

@@ -1,9 +1,12 @@
-//! Frame checksum, reading and writing by 01 "Frame layout" and "Refusal numbers", writing as 02 C-16 amends it.
+//! Frame checksum, reading and writing by 01 "Frame layout" and "Refusal numbers", reading as 02 C-18 amends it, writing as
+//! C-16 does.
 
 use crate::bits;
 use crate::channel::Channel;
 use crate::checksum::{FRAME, HEADER};
+use crate::checksum_pair::ChecksumPair;
 use crate::refusal::{holding, refuse_first, Refusal};
+use crate::refused::Refused;
 
 pub const HEADER_BYTES: usize = 5;
 pub const TRAILER_BYTES: usize = 3;
@@ -123,9 +126,31 @@ pub fn checksum_on(channel: Channel, bytes: &[u8]) -> u32 {
 }
 
 /// Reads a frame.
-pub fn read(channel: u8, bytes: &[u8]) -> Result<Fields, Refusal> {
-    refuse_first(&read_causes(channel, bytes))?;
+pub fn read(channel: u8, bytes: &[u8]) -> Result<Fields, Refused> {
+    let told = |refusal| Refused { refusal, checksums: checksums_beside(refusal, channel, bytes) };
+    refuse_first(&read_causes(channel, bytes)).map_err(told)?;
     Ok(header_in(bytes))
+}
+
+/// 02 C-18: what a refusal of these bytes tells, which is something with 4 and 8 only.
+fn checksums_beside(refusal: Refusal, channel: u8, bytes: &[u8]) -> ChecksumPair {
+    match (refusal, Channel::from_number(channel)) {
+        (Refusal::HeaderChecksum, _) => header_checksums(bytes),
+        (Refusal::FrameChecksum, Ok(channel)) => frame_checksums(channel, bytes),
+        _ => ChecksumPair::NONE,
+    }
+}
+
+/// The header checksum that stands in the first five bytes, and the one that belongs to their other fields.
+pub fn header_checksums(bytes: &[u8]) -> ChecksumPair {
+    let fields = header_in(bytes);
+    ChecksumPair { found: fields.header_checksum.into(), expected: fields.right_header_checksum().into() }
+}
+
+/// The trailer, and the frame checksum of all before it.
+fn frame_checksums(channel: Channel, bytes: &[u8]) -> ChecksumPair {
+    let (body, trailer) = bytes.split_at(bytes.len() - TRAILER_BYTES);
+    ChecksumPair { found: bits::number(&bits::of_bytes(trailer)), expected: checksum_on(channel, body) }
 }
 
 /// What the first five bytes say, right or wrong.
@@ -150,12 +175,10 @@ pub fn read_causes(channel: u8, bytes: &[u8]) -> Vec<Refusal> {
 
 fn causes_inside(channel: Option<Channel>, bytes: &[u8]) -> Vec<Refusal> {
     let fields = header_in(bytes);
-    let (body, trailer) = bytes.split_at(bytes.len() - TRAILER_BYTES);
-    let found = bits::number(&bits::of_bytes(trailer));
     // On a channel that is none the checksum of either would do.
-    let differs = |other| channel.unwrap_or(other) != other || found != checksum_on(other, body);
+    let differs = |other| channel.unwrap_or(other) != other || frame_checksums(other, bytes).differs();
     holding([
-        (Refusal::HeaderChecksum, fields.header_checksum != fields.right_header_checksum()),
+        (Refusal::HeaderChecksum, header_checksums(bytes).differs()),
         (Refusal::WordsAgainstSize, fields.frame_size() != bytes.len()),
         (Refusal::IdRead, fields.id == 0),
         (Refusal::StartupWithoutSync, fields.indicators.startup_without_sync()),
@@ -170,7 +193,7 @@ pub fn could_be_read(fields: &Fields) -> bool {
 }
 
 /// The caller's own bytes between header and trailer, or an empty part after a refusal.
-pub fn payload<'a>(answer: &Result<Fields, Refusal>, bytes: &'a [u8]) -> &'a [u8] {
+pub fn payload<'a>(answer: &Result<Fields, Refused>, bytes: &'a [u8]) -> &'a [u8] {
     if answer.is_err() {
         return &[];
     }
@@ -231,7 +254,8 @@ pub fn frame_bytes(channel: Channel, fields: &Fields, payload: &[u8]) -> Vec<u8>
 #[cfg(test)]
 mod tests {
     use super::*;
-    use crate::listed_frames::{LONG, NOT_ZEROS, STARTUP, ZEROS, ZEROS_WITH_PREAMBLE};
+    use crate::draft::Draft;
+    use crate::listed_frames::{self, LONG, NOT_ZEROS, STARTUP, ZEROS, ZEROS_WITH_PREAMBLE};
 
     /// The four covered fields stand side by side in the header: its 20 bits from the fourth on.
     #[test]
@@ -342,6 +366,38 @@ mod tests {
             // A refusal touches nothing.
             assert_eq!(written(channel, given, payload, room), (number, vec![0x3C; room]));
         }
+    }
+
+    /// 02 C-18: what each refusal of the shortest frame tells.
+    #[test]
+    fn checksums_beside_every_number() {
+        for channel in Channel::BOTH {
+            for (number, (given, checksums)) in (1..).zip(listed_frames::refused(channel)) {
+                let refused = read(given.channel, &given.bytes).unwrap_err();
+                assert_eq!((refused.number(), refused.checksums), (number, checksums));
+            }
+        }
+    }
+
+    /// Both checksums wrong, beside everything that is refused before one of them.
+    #[test]
+    fn checksums_are_told_beside_their_own_number() {
+        let plain = Draft::plain(Channel::A, 0b00100, 1, 0, 0);
+        let wrong = Draft { header_checksum_change: 0x69F, frame_checksum_change: 1, ..plain };
+        let told = |channel, bytes: &[u8]| {
+            let refused = read(channel, bytes).unwrap_err();
+            (refused.number(), refused.checksums.found, refused.checksums.expected)
+        };
+        assert_eq!(told(0, &wrong.bytes()), (4, 0, 0x69F));
+        assert_eq!(told(2, &wrong.bytes()), (1, 0, 0));
+        assert_eq!(told(0, &wrong.bytes()[..7]), (2, 0, 0));
+        assert_eq!(told(0, &Draft { payload: vec![0], ..wrong.clone() }.bytes()), (3, 0, 0));
+        assert_eq!(told(0, &Draft { id: 0, words: 9, ..wrong.clone() }.bytes()).0, 4);
+        let right_header = Draft { header_checksum_change: 0, ..wrong };
+        assert_eq!(told(0, &right_header.bytes()), (8, 0xD05EEB, 0xD05EEA));
+        assert_eq!(told(1, &right_header.bytes()), (8, 0xD05EEB, 0x3BD08F));
+        assert_eq!(told(0, &Draft { words: 1, ..right_header.clone() }.bytes()), (5, 0, 0));
+        assert_eq!(told(0, &Draft { id: 0, ..right_header }.bytes()), (6, 0, 0));
     }
 
     /// Frames that are known whole are read, and what was read is written: the same bytes, or nothing.

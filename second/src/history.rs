@@ -1,5 +1,7 @@
 //! What happens in a slot, and what its status must show afterwards: told from the whole history at once.
 
+use crate::channel::Channel;
+use crate::checksum_pair::ChecksumPair;
 use crate::draft::Draft;
 use crate::marks::Mark;
 use crate::plan::{Expected, Plan};
@@ -9,6 +11,7 @@ use crate::refusal::{Refusal, READ_ORDER};
 use crate::scene::Scene;
 use crate::script::Command;
 use crate::status_numbers::{HeaderNumbers, StatusNumbers};
+use crate::unreadable::Unreadable;
 
 /// Sorts of what can happen in a slot.
 #[derive(Clone, Copy, Debug, PartialEq, Eq, PartialOrd, Ord)]
@@ -31,7 +34,7 @@ impl Sort {
 #[derive(Clone, Debug)]
 pub enum Happening {
     /// Bytes that can't be read.
-    Refused(Vec<u8>),
+    Refused(Unreadable),
     /// A frame with the first test that it misses.
     Missing(Test, Draft),
     Good(Draft),
@@ -42,7 +45,7 @@ pub enum Happening {
 impl Happening {
     pub fn any(random: &mut Random, scene: &Scene, sort: Sort) -> Happening {
         match sort {
-            Sort::NoBytes => Happening::Refused(Vec::new()),
+            Sort::NoBytes => Happening::Refused(no_bytes(scene.channel)),
             Sort::Refused => Happening::Refused(any_refused(random, scene)),
             Sort::Missing => {
                 let test = random.pick(scene.kind.tests());
@@ -61,7 +64,7 @@ impl Happening {
 
     pub fn command(&self) -> Command {
         match self {
-            Happening::Refused(bytes) => Command::Arrived(bytes.clone()),
+            Happening::Refused(unreadable) => Command::Arrived(unreadable.bytes.clone()),
             Happening::Missing(_, draft) | Happening::Good(draft) => Command::Arrived(draft.bytes()),
             Happening::Boundary => Command::Boundary,
             Happening::OwnSending => Command::OwnSending,
@@ -76,6 +79,14 @@ impl Happening {
             Happening::Good(_) => Some(Mark::Valid),
             Happening::Boundary => Some(Mark::BoundaryViolation),
             Happening::OwnSending => Some(Mark::OwnSending),
+        }
+    }
+
+    /// 02 C-18: what a syntax error tells.
+    fn checksums(&self) -> Option<ChecksumPair> {
+        match self {
+            Happening::Refused(unreadable) => Some(unreadable.checksums),
+            _ => None,
         }
     }
 
@@ -96,14 +107,18 @@ pub enum Tested {
     Good,
 }
 
+fn no_bytes(channel: Channel) -> Unreadable {
+    Unreadable::silent(Refusal::TooFewBytes, channel, Vec::new())
+}
+
 /// All read refusals but that of a channel, which a slot can't meet; no bytes are a sort of their own.
-fn any_refused(random: &mut Random, scene: &Scene) -> Vec<u8> {
+fn any_refused(random: &mut Random, scene: &Scene) -> Unreadable {
     let refusal = random.pick(&READ_ORDER[1..]);
-    let bytes = scene.refused(random, refusal);
-    if bytes.is_empty() {
-        return random.bytes(1);
+    let unreadable = scene.refused(random, refusal);
+    if unreadable.bytes.is_empty() {
+        return Unreadable { bytes: random.bytes(1), ..unreadable };
     }
-    bytes
+    unreadable
 }
 
 /// 01 "Judging a slot": the marks with "conflict" as the others ask for it.
@@ -125,12 +140,21 @@ pub fn demanded(before: &StatusNumbers, history: &[Happening]) -> StatusNumbers 
     let content_error = reason.map(|_| Mark::ContentError);
     let set = history.iter().filter_map(Happening::mark).chain(content_error);
     let marks = set.fold(before.marks, |marks, mark| marks | mark.bit());
-    let after = StatusNumbers { marks: with_conflict(marks), reason: reason.map_or(0, Reason::number), ..before };
+    let (marks, reason) = (with_conflict(marks), reason.map_or(0, Reason::number));
+    let after = StatusNumbers { marks, reason, checksums: first_told(&before, history), ..before };
     let first_good = history.iter().find_map(|happening| match happening {
         Happening::Good(draft) if !before.kept => Some(HeaderNumbers::of(&draft.fields())),
         _ => None,
     });
     first_good.map_or(after, |header| StatusNumbers { kept: true, header, ..after })
+}
+
+/// 02 C-18: what the first syntax error tells. One that stood before is the first, whatever it told.
+fn first_told(before: &StatusNumbers, history: &[Happening]) -> ChecksumPair {
+    if before.marks & Mark::SyntaxError.bit() != 0 {
+        return before.checksums;
+    }
+    history.iter().find_map(Happening::checksums).unwrap_or(ChecksumPair::NONE)
 }
 
 /// The frames that could be read, in their order; one that is kept from before was good.
@@ -188,7 +212,6 @@ pub fn play_refused(plan: &mut Plan, unsound: &StatusNumbers, frame: Vec<u8>) {
 #[cfg(test)]
 mod tests {
     use super::*;
-    use crate::channel::Channel;
     use crate::scene::Kind;
 
     #[test]
@@ -240,6 +263,35 @@ mod tests {
         ];
         for (before, history, after) in cases {
             assert_eq!(demanded(&before, history), after);
+        }
+    }
+
+    /// 02 C-18: what the first syntax error told stays, also where that was nothing, and also one that was put; frames and
+    /// everything else leave it.
+    #[test]
+    fn first_checksums_by_hand() {
+        let mut random = Random::from_seed(8);
+        let scene = Scene::fair(&mut random, Channel::B, Kind::Static);
+        let telling = |found, expected| {
+            let checksums = ChecksumPair { found, expected };
+            Happening::Refused(Unreadable { checksums, ..no_bytes(Channel::B) })
+        };
+        let (silent, good) = (telling(0, 0), Happening::Good(scene.good(&mut random)));
+        let put = StatusNumbers { marks: 1, checksums: ChecksumPair { found: 5, expected: 6 }, ..scene.fresh() };
+        let put_without = StatusNumbers { marks: 1, ..scene.fresh() };
+        let cases: [(StatusNumbers, &[Happening], [u32; 2]); 9] = [
+            (scene.fresh(), &[good.clone(), Happening::OwnSending], [0, 0]),
+            (scene.fresh(), &[telling(1, 2)], [1, 2]),
+            (scene.fresh(), &[telling(1, 2), telling(3, 4)], [1, 2]),
+            (scene.fresh(), &[telling(1, 2), silent.clone()], [1, 2]),
+            (scene.fresh(), &[silent.clone(), telling(3, 4)], [0, 0]),
+            (scene.fresh(), &[good.clone(), telling(3, 4), good.clone(), Happening::Boundary], [3, 4]),
+            (put, &[telling(1, 2)], [5, 6]),
+            (put, &[good, silent], [5, 6]),
+            (put_without, &[telling(1, 2)], [0, 0]),
+        ];
+        for (before, history, [found, expected]) in cases {
+            assert_eq!(demanded(&before, history).checksums, ChecksumPair { found, expected });
         }
     }
 

@@ -1,6 +1,7 @@
 //! The frames that are known whole on both channels, byte by byte as they were written down.
 
 use crate::channel::Channel;
+use crate::checksum_pair::ChecksumPair;
 use crate::draft::Draft;
 use crate::frame::{Indicators, HIGHEST_CYCLE, HIGHEST_ID, LARGEST_PAYLOAD};
 use crate::script::{OnChannel, Write};
@@ -90,6 +91,15 @@ impl ListedFrame {
         [&self.header, self.payload, &self.trailer(channel)].concat()
     }
 
+    /// 02 C-18: what is told of this channel's frame where it is read on the other one.
+    pub fn strange(&self, channel: Channel) -> ChecksumPair {
+        let [found, expected] = [channel, channel.other()].map(|channel| {
+            let [high, middle, low] = self.trailer(channel);
+            u32::from_be_bytes([0, high, middle, low])
+        });
+        ChecksumPair { found, expected }
+    }
+
     /// A write of the frame, in a room for just that.
     pub fn write(&self, channel: Channel) -> Write {
         let ListedFrame { flags, id, cycle, .. } = *self;
@@ -105,20 +115,26 @@ impl ListedFrame {
     }
 }
 
-/// The shortest frame, and what is made of it for each refusal of a read, 1 to 8 in this order.
-pub fn refused(channel: Channel) -> [OnChannel; 8] {
+/// What the fourth and the eighth of these tell (02 C-18): a header checksum and trailers whose last bit is turned over.
+const WRONG_HEADER: ChecksumPair = ChecksumPair { found: 0x69E, expected: 0x69F };
+const WRONG_TRAILERS: [ChecksumPair; 2] =
+    [ChecksumPair { found: 0xD05EEB, expected: 0xD05EEA }, ChecksumPair { found: 0x3BD08E, expected: 0x3BD08F }];
+
+/// The shortest frame, and what is made of it for each refusal of a read, 1 to 8 in this order, with what they tell.
+pub fn refused(channel: Channel) -> [(OnChannel, ChecksumPair); 8] {
     let good = Draft::plain(channel, SHORT.flags, SHORT.id, 0, SHORT.cycle);
     let startup = Indicators { startup: true, ..good.indicators };
-    let (own, foreign) = (channel.number(), 2);
+    let (own, foreign, none) = (channel.number(), 2, ChecksumPair::NONE);
+    let wrong_trailer = WRONG_TRAILERS[usize::from(own)];
     let cases = [
-        (foreign, SHORT.bytes(channel)),
-        (own, SHORT.sized(channel, 7)),
-        (own, SHORT.sized(channel, 9)),
-        (own, Draft { header_checksum_change: 1, ..good.clone() }.bytes()),
-        (own, SHORT.sized(channel, 10)),
-        (own, Draft { id: 0, ..good.clone() }.bytes()),
-        (own, Draft { indicators: startup, ..good.clone() }.bytes()),
-        (own, Draft { frame_checksum_change: 1, ..good }.bytes()),
+        (foreign, SHORT.bytes(channel), none),
+        (own, SHORT.sized(channel, 7), none),
+        (own, SHORT.sized(channel, 9), none),
+        (own, Draft { header_checksum_change: 1, ..good.clone() }.bytes(), WRONG_HEADER),
+        (own, SHORT.sized(channel, 10), none),
+        (own, Draft { id: 0, ..good.clone() }.bytes(), none),
+        (own, Draft { indicators: startup, ..good.clone() }.bytes(), none),
+        (own, Draft { frame_checksum_change: 1, ..good }.bytes(), wrong_trailer),
     ];
-    cases.map(|(channel, bytes)| OnChannel { channel, bytes })
+    cases.map(|(channel, bytes, checksums)| (OnChannel { channel, bytes }, checksums))
 }

@@ -1,6 +1,7 @@
 //! The calls that a piece of samples makes, and the line written for each.
 
 use crate::answer::{field_numbers, hex};
+use crate::checksum_pair::ChecksumPair;
 use crate::decoder::Told;
 use crate::reader::{Heard, Reader};
 use crate::refusal::Refusal;
@@ -42,13 +43,21 @@ impl Call {
         }
     }
 
+    /// 02 C-18: those that an error tells.
+    pub fn checksums(&self) -> ChecksumPair {
+        match self.answer {
+            Ok(Heard { told: Told::Error(error), .. }) => error.checksums,
+            _ => ChecksumPair::NONE,
+        }
+    }
+
     pub fn line(&self) -> String {
-        let (number, taken) = (self.number(), self.taken());
+        let (number, taken, checksums) = (self.number(), self.taken(), self.checksums());
         match self.answer {
             Ok(Heard { told: Told::Frame(fields, _, since), .. }) => {
-                format!("heard 0 {taken} {since} {} {}", field_numbers(&fields), hex(&self.bytes))
+                format!("heard 0 {taken} {since} {} {} {checksums}", field_numbers(&fields), hex(&self.bytes))
             }
-            _ => format!("heard {number} {taken}"),
+            _ => format!("heard {number} {taken} {checksums}"),
         }
     }
 }
@@ -71,13 +80,14 @@ pub fn calls(reader: &mut Reader, samples: &[u8], memory: &mut [u8]) -> Vec<Call
 #[cfg(test)]
 mod tests {
     use super::*;
+    use crate::bits;
     use crate::channel::Channel;
     use crate::frame::LARGEST_FRAME;
     use crate::listed_frames::SHORT;
     use crate::reader;
     use crate::samples;
 
-    const SHORT_LINE: &str = "632 0 0 1 0 0 1 0 1695 0 200101a7c0d05eea";
+    const SHORT_LINE: &str = "632 0 0 1 0 0 1 0 1695 0 200101a7c0d05eea 0 0";
 
     fn lines(reader: &mut Reader, samples: &[u8]) -> Vec<String> {
         calls(reader, samples, &mut [0; LARGEST_FRAME]).iter().map(Call::line).collect()
@@ -90,7 +100,7 @@ mod tests {
         let stream = samples::short_stream(Channel::A);
         assert_eq!(stream.len(), 776);
         let mut reader = reader::open(0).unwrap();
-        assert_eq!(lines(&mut reader, &stream), [format!("heard 0 767 {SHORT_LINE}"), "heard 0 9".to_string()]);
+        assert_eq!(lines(&mut reader, &stream), [format!("heard 0 767 {SHORT_LINE}"), "heard 0 9 0 0".to_string()]);
         let mut reader = reader::open(0).unwrap();
         let mut memory = [0; LARGEST_FRAME];
         let mut strobes = Vec::new();
@@ -108,9 +118,9 @@ mod tests {
 
     #[test]
     fn an_empty_piece_is_listened_to_once() {
-        assert_eq!(lines(&mut reader::open(1).unwrap(), &[]), ["heard 0 0"]);
-        assert_eq!(lines(&mut Reader::default(), &[]), ["heard 23 0"]);
-        assert_eq!(lines(&mut Reader::default(), &[1, 0]), ["heard 23 0"]);
+        assert_eq!(lines(&mut reader::open(1).unwrap(), &[]), ["heard 0 0 0 0"]);
+        assert_eq!(lines(&mut Reader::default(), &[]), ["heard 23 0 0 0"]);
+        assert_eq!(lines(&mut Reader::default(), &[1, 0]), ["heard 23 0 0 0"]);
     }
 
     /// The sample that tells something may be the last: then nothing is left to listen to.
@@ -119,7 +129,28 @@ mod tests {
         let stream = samples::short_stream(Channel::A);
         let heard = lines(&mut reader::open(0).unwrap(), &stream[..767]);
         assert_eq!(heard, [format!("heard 0 767 {SHORT_LINE}")]);
-        assert_eq!(lines(&mut reader::open(0).unwrap(), &stream[..766]), ["heard 0 766"]);
+        assert_eq!(lines(&mut reader::open(0).unwrap(), &stream[..766]), ["heard 0 766 0 0"]);
+    }
+
+    /// 02 C-18: the sync bit of the first frame turned over, which is found behind five bytes; the last bit of its trailer,
+    /// which is found at the end; and the frame on the other channel.
+    #[test]
+    fn errors_4_and_8_tell_checksums() {
+        let with_bit = |place: usize| {
+            let mut frame = SHORT.bytes(Channel::A);
+            bits::flip(&mut frame, place);
+            samples::behind_idle(3, &frame)
+        };
+        // A bit is strobed in the seventh of its samples.
+        let (header, end) = (8 * (11 + 3 + 1 + 50) - 1, 767);
+        let cases = [
+            (0, with_bit(3), format!("heard 4 {header} 1695 861")),
+            (0, with_bit(63), format!("heard 8 {end} 13655787 13655786")),
+            (1, samples::short_stream(Channel::A), format!("heard 8 {end} 13655786 3920015")),
+        ];
+        for (channel, stream, line) in cases {
+            assert_eq!(lines(&mut reader::open(channel).unwrap(), &stream)[0], line);
+        }
     }
 
     #[test]

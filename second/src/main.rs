@@ -10,6 +10,7 @@ mod cases;
 mod causes;
 mod channel;
 mod checksum;
+mod checksum_pair;
 mod clock;
 mod clock_faults;
 mod clock_history;
@@ -38,6 +39,7 @@ mod reader_mixture;
 mod reader_numbers;
 mod reason;
 mod refusal;
+mod refused;
 mod replay;
 mod samples;
 mod scene;
@@ -49,6 +51,7 @@ mod slot_mixture;
 mod status_numbers;
 mod streams;
 mod sync_list;
+mod unreadable;
 mod vectors;
 mod wire;
 
@@ -58,7 +61,12 @@ use std::path::Path;
 use std::process::ExitCode;
 use std::{env, fs};
 
-const USAGE: &str = "usage: second scripts DIR | random SEED COUNT | replay | errors DIR";
+use errors::Small;
+use replay::Replay;
+use script::Letters;
+
+const USAGE: &str =
+    "usage: second scripts DIR | random SEED COUNT | replay | random-frames SEED COUNT | frames | errors DIR";
 
 type Done = Result<(), Box<dyn Error>>;
 
@@ -67,8 +75,10 @@ fn main() -> ExitCode {
     let arguments: Vec<&str> = arguments.iter().map(String::as_str).collect();
     let done = match arguments[..] {
         ["scripts", directory] => write_scripts(Path::new(directory)),
-        ["random", seed, count] => write_random(seed, count),
-        ["replay"] => replay_input(),
+        ["random", seed, count] => write_random(mixture::script, seed, count),
+        ["replay"] => replay_input(Letters::All),
+        ["random-frames", seed, count] => write_random(mixture::frames_script, seed, count),
+        ["frames"] => replay_input(Letters::Frames),
         ["errors", directory] => write_errors(Path::new(directory)),
         _ => Err(USAGE.into()),
     };
@@ -80,20 +90,24 @@ fn main() -> ExitCode {
 }
 
 fn write_scripts(directory: &Path) -> Done {
-    let vectors = vectors::build()?;
+    let (vectors, frames) = (vectors::build()?, vectors::build_frames()?);
     fs::create_dir_all(directory)?;
     fs::write(directory.join("stdin"), &vectors.script)?;
     fs::write(directory.join("stdout"), &vectors.text)?;
-    write_ends(&directory.join("ends"))?;
+    write_ends(&directory.join("ends"), errors::one_of_each().into())?;
     write_bench_inputs(&directory.join("bench"))?;
-    println!("{}", vectors.summary);
+    // What a program can be given that knows the commands of frames alone.
+    fs::write(directory.join("frames.stdin"), &frames.script)?;
+    fs::write(directory.join("frames.stdout"), &frames.text)?;
+    write_ends(&directory.join("frames-ends"), errors::of_frames())?;
+    println!("{}\n{}", vectors.summary, frames.summary);
     Ok(())
 }
 
-/// One script for each kind of script error.
-fn write_ends(directory: &Path) -> Done {
+/// Small scripts by their names.
+fn write_ends(directory: &Path, ends: Vec<(String, Small)>) -> Done {
     fs::create_dir_all(directory)?;
-    for (name, small) in errors::one_of_each() {
+    for (name, small) in ends {
         fs::write(directory.join(format!("{name}.stdin")), &small.script)?;
         fs::write(directory.join(format!("{name}.stdout")), &small.text)?;
     }
@@ -110,17 +124,17 @@ fn write_bench_inputs(directory: &Path) -> Done {
     Ok(())
 }
 
-fn write_random(seed: &str, count: &str) -> Done {
-    let script = mixture::script(seed.parse()?, count.parse()?);
+fn write_random(script: fn(u64, usize) -> Vec<u8>, seed: &str, count: &str) -> Done {
+    let script = script(seed.parse()?, count.parse()?);
     io::stdout().write_all(&script)?;
     Ok(())
 }
 
-fn replay_input() -> Done {
+fn replay_input(letters: Letters) -> Done {
     let mut script = Vec::new();
     io::stdin().read_to_end(&mut script)?;
     let mut output = BufWriter::new(io::stdout().lock());
-    for outcome in replay::Replay::of(&script) {
+    for outcome in Replay::by(letters, &script) {
         writeln!(output, "{}", outcome.line())?;
     }
     output.flush()?;

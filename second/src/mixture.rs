@@ -11,17 +11,26 @@ use crate::frame::{Indicators, MOST_WORDS};
 use crate::random::Random;
 use crate::reader_mixture;
 use crate::refusal::{Refusal, ENCODE_ORDER, READ_ORDER, WRITE_ORDER};
-use crate::script::{Command, OnChannel, LIMIT};
+use crate::script::{Command, Letters, OnChannel, LIMIT};
 use crate::slot_mixture;
+use crate::unreadable::Unreadable;
 
 /// A whole script of random commands.
 pub fn script(seed: u64, count: usize) -> Vec<u8> {
     let mut random = Random::from_seed(seed);
+    script_of(iter::repeat_with(|| stretch(&mut random)).flatten().take(count))
+}
+
+/// The same of those that a player of frames knows.
+pub fn frames_script(seed: u64, count: usize) -> Vec<u8> {
+    let mut random = Random::from_seed(seed);
+    let commands = iter::repeat_with(|| frame_command(&mut random));
+    script_of(commands.filter(|command| Letters::Frames.know(command.letter())).take(count))
+}
+
+fn script_of(commands: impl Iterator<Item = Command>) -> Vec<u8> {
     let mut script = Vec::new();
-    let commands = iter::repeat_with(|| stretch(&mut random)).flatten();
-    for command in commands.take(count) {
-        command.append_to(&mut script);
-    }
+    commands.for_each(|command| command.append_to(&mut script));
     script
 }
 
@@ -88,11 +97,12 @@ pub fn frame_command(random: &mut Random) -> Command {
 
 /// Bytes to be read on a channel: frames as a rule, good or damaged.
 fn any_frame(random: &mut Random) -> OnChannel {
-    match random.below(9) {
+    match random.below(11) {
         0 | 1 => random_bytes(random),
         2 | 3 => true_frame(random),
         4..=6 => damaged_frame(random),
         7 => cut_or_extended(random),
+        8 | 9 => wrong_checksum(random),
         _ => random_header(random),
     }
 }
@@ -150,6 +160,12 @@ pub fn damaged(random: &mut Random, draft: &Draft) -> Vec<u8> {
         bits::flip(&mut bytes, place);
     }
     bytes
+}
+
+/// 02 C-18: a frame that is right up to its header checksum or up to its trailer.
+fn wrong_checksum(random: &mut Random) -> OnChannel {
+    let fair = fair_draft(random);
+    Unreadable::telling(random, fair).on_channel()
 }
 
 fn cut_or_extended(random: &mut Random) -> OnChannel {
@@ -223,6 +239,8 @@ fn any_encode(random: &mut Random) -> Command {
 
 #[cfg(test)]
 mod tests {
+    use std::collections::{BTreeMap, BTreeSet};
+
     use super::*;
     use crate::frame::NULL_FRAME_BIT;
     use crate::payloads::places;
@@ -253,6 +271,22 @@ mod tests {
             let accepted = outcomes.iter().filter(|outcome| is_accepted_on(channel, outcome));
             assert!(accepted.count() > 40);
         }
+    }
+
+    /// Of a script for a player of frames each command is known, there are as many as asked for, and each is given often.
+    #[test]
+    fn frames_alone() {
+        let script = frames_script(5, 3_000);
+        let outcomes: Vec<Outcome> = Replay::by(Letters::Frames, &script).collect();
+        assert_eq!(outcomes.len(), 3_000);
+        let of_letter = |letter: char| {
+            let is =
+                |outcome: &&Outcome| matches!(outcome, Outcome::Answered(command, _) if command.letter() == letter);
+            outcomes.iter().filter(is).count()
+        };
+        let counts = ['F', 'R', 'P'].map(of_letter);
+        assert!(counts.iter().all(|count| *count > 200), "{counts:?}");
+        assert_eq!(counts.iter().sum::<usize>(), 3_000);
     }
 
     fn is_accepted_on(channel: Channel, outcome: &Outcome) -> bool {
@@ -297,6 +331,29 @@ mod tests {
         one_in(40, 26, is_other_than_0_between);
         one_in(8, 0, |write| !is_null(write));
         one_in(40, 0, |write| !is_null(write) && places(&write.payload).len() == 1);
+    }
+
+    /// 02 C-18: on both channels 4 and 8 are told by each entry that reads, of frames of many sizes.
+    #[test]
+    fn checksums_are_told_everywhere() {
+        let mut sizes: BTreeMap<(char, u8, u8), BTreeSet<usize>> = BTreeMap::new();
+        for outcome in some_outcomes(20_000) {
+            let Outcome::Answered(command, answer) = outcome else {
+                panic!("the script is whole");
+            };
+            let (channel, size) = match &command {
+                Command::Read(given) => (given.channel, given.bytes.len()),
+                Command::Encode(encode) => (encode.channel, encode.frame.len()),
+                Command::Bench(input) if !input.is_empty() => (input[0], input.len() - 1),
+                _ => continue,
+            };
+            assert_eq!(answer.checksums().differs(), matches!(answer.number(), 4 | 8));
+            if answer.checksums().differs() {
+                sizes.entry((command.letter(), answer.number(), channel)).or_default().insert(size);
+            }
+        }
+        assert_eq!(sizes.len(), 3 * 2 * 2);
+        assert!(sizes.values().all(|sizes| sizes.len() > 10), "{sizes:?}");
     }
 
     fn is_null(write: &Write) -> bool {

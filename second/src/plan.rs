@@ -5,7 +5,7 @@ use crate::clock_numbers::ClockNumbers;
 use crate::listening::Call;
 use crate::reader_numbers::ReaderNumbers;
 use crate::refusal::Refusal;
-use crate::script::Command;
+use crate::script::{Command, Letters};
 use crate::status_numbers::StatusNumbers;
 
 /// What must come of a command: what its case demands, or in a round trip what the command before it gave.
@@ -92,6 +92,12 @@ impl Plan {
     /// A command with the named causes.
     pub fn add_faulty(&mut self, command: Command, faults: &[Refusal]) {
         self.add(command, Expected::first_of(faults));
+    }
+
+    /// The commands that a player knows by these letters.
+    pub fn known_to(mut self, letters: Letters) -> Plan {
+        self.entries.retain(|entry| letters.know(entry.command.letter()));
+        self
     }
 
     pub fn script(&self) -> Vec<u8> {

@@ -4,6 +4,7 @@
 //! than it is counted is never reached.
 
 mod bench;
+mod both_checksums;
 mod causes;
 mod choices;
 mod closing;
@@ -11,6 +12,7 @@ mod cycles;
 mod damage;
 mod ends;
 mod frames;
+mod frames_alone;
 mod given;
 mod measuring;
 mod null_frames;
@@ -37,6 +39,7 @@ use crate::reader_numbers::ReaderNumbers;
 use crate::replay::Outcome;
 use crate::script::{Cause, Command, OnChannel};
 use crate::status_numbers::StatusNumbers;
+use both_checksums::Arrivals;
 use reader::Behind;
 use second_frames::Frames;
 use sheet_marks::Sheets;
@@ -64,6 +67,7 @@ pub struct Reached {
     /// What happened since the slot was opened.
     history: Vec<Sort>,
     frames: Frames,
+    arrivals: Arrivals,
     /// The numbers from which the states that are held were made.
     put_status: Option<StatusNumbers>,
     put_clock: Option<ClockNumbers>,
@@ -85,7 +89,11 @@ impl Reached {
     }
 
     pub fn missing(&self) -> Vec<String> {
-        let demanded = required().into_iter().flat_map(|text| choices::expand(&text));
+        self.missing_of(required())
+    }
+
+    fn missing_of(&self, required: Vec<String>) -> Vec<String> {
+        let demanded = required.into_iter().flat_map(|text| choices::expand(&text));
         demanded.filter(|reach| !self.counts.contains_key(reach)).collect()
     }
 
@@ -131,6 +139,7 @@ impl Reached {
         self.add_stayed(letter, answer.number());
         self.add_soundness(letter, answer);
         self.add_sheet_marks(command, answer);
+        self.add_both_checksums(command, answer);
         match command {
             Command::Checksum(given) => self.add_checksum(given, answer),
             Command::Read(given) => self.add_read(given, answer),
@@ -177,6 +186,7 @@ fn required() -> Vec<String> {
     all.extend(streams::required());
     all.extend(slots::required());
     all.extend(second_frames::required());
+    all.extend(both_checksums::required());
     all.extend(soundness::required());
     all.extend(unlooked::required());
     all.extend(cycles::required());
@@ -200,8 +210,9 @@ mod tests {
     use crate::listed_frames::NOT_ZEROS;
     use crate::plan::Expected;
     use crate::random::Random;
+    use crate::refusal::Refusal;
     use crate::replay::Replay;
-    use crate::scene::Scene;
+    use crate::scene::{Kind, Scene};
     use crate::script::Write;
     use crate::sheet_mark::SheetMark;
 
@@ -254,6 +265,29 @@ mod tests {
         assert!(!reaches(&[&write, &read], again));
         assert!(!reaches(&[&Command::read(0, &frame), &write], again));
         assert!(reaches(&[&read], "R of a null frame of 4 bytes, zeros: false, on 1: 0"));
+    }
+
+    /// 02 C-18: what is told counts with the size of the frame, and what a slot keeps once it is shown.
+    #[test]
+    fn checksums_count_where_they_are_told_and_kept() {
+        let mut random = Random::from_seed(18);
+        let scene = Scene::fair(&mut random, Channel::B, Kind::Static);
+        let wrong =
+            [Refusal::HeaderChecksum, Refusal::FrameChecksum].map(|refusal| scene.refused(&mut random, refusal));
+        let size = wrong[0].bytes.len();
+        let [header, trailer] = wrong.map(|wrong| Command::Arrived(wrong.bytes));
+        let (open, show) = (scene.open(), Command::Show);
+        let both = "opened on B: [4, 8], others later: true";
+        assert!(reaches(&[&open, &header, &trailer, &show], both));
+        assert!(!reaches(&[&open, &header, &trailer], both) && !reaches(&[&open, &trailer, &header, &show], both));
+        assert!(reaches(&[&open, &header, &show, &trailer], "opened on B: [4], others later: false"));
+        let frame = NOT_ZEROS.bytes(Channel::A);
+        let (read, bench) = (Command::read(1, &frame), Command::bench(1, &frame));
+        assert!(reaches(&[&open, &header, &show], &format!("A tells 4 of {size} bytes on 1")));
+        assert!(reaches(&[&read], "R tells 8 of 12 bytes on 1") && !reaches(&[&bench], "R tells 8 of 12 bytes on 1"));
+        // 0x6F72BA for 0x0928BF.
+        assert!(reaches(&[&bench], "P tells 8 on 1, 7 and 6 digits"));
+        assert!(!reaches(&[&Command::bench(0, &frame)], "P tells 8 on 0, 7 and 6 digits"));
     }
 
     /// 02 C-17: what follows a load counts behind the sheet that was there before, until another one is put.

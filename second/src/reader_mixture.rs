@@ -12,6 +12,7 @@ use crate::reader_numbers::{
 use crate::samples::{self, IDLE_BITS, LOW};
 use crate::script::{Command, Listen, Run, MEMORY};
 use crate::streams;
+use crate::unreadable::Unreadable;
 use crate::wire;
 
 const MOST_STREAMS: usize = 3;
@@ -47,11 +48,12 @@ fn any_frame(random: &mut Random, channel: Channel) -> Vec<u8> {
     let channel = if random.one_in(12) { channel.other() } else { channel };
     let words = random.pick(&[0, 0, 0, 1, 2, 4]);
     let draft = Draft::fair(random, channel, words);
-    match random.below(16) {
+    match random.below(22) {
         0 => Draft { id: 0, ..draft }.bytes(),
-        1 => Draft { header_checksum_change: 1 << random.below(11), ..draft }.bytes(),
-        2 => mixture::damaged(random, &draft),
-        3 => {
+        // 02 C-18: errors 4 and 8.
+        1..=3 => Unreadable::telling(random, draft).bytes,
+        4 => mixture::damaged(random, &draft),
+        5 => {
             let mut startup = draft.indicators;
             (startup.sync, startup.startup) = (false, true);
             Draft { indicators: startup, ..draft }.bytes()
@@ -194,9 +196,11 @@ fn changed(random: &mut Random, channel: Channel) -> ReaderNumbers {
 
 #[cfg(test)]
 mod tests {
-    use std::collections::BTreeMap;
+    use std::collections::{BTreeMap, BTreeSet};
 
     use super::*;
+    use crate::answer::Answer;
+    use crate::checksum_pair::ChecksumPair;
     use crate::replay::{Outcome, Replay};
 
     fn some_outcomes() -> Vec<Outcome> {
@@ -224,6 +228,26 @@ mod tests {
         let frames = text.lines().filter(|line| line.starts_with("heard 0") && line.len() > 40).count();
         assert!(frames > 800, "{frames}");
         assert!(!text.contains("script error"));
+    }
+
+    /// 02 C-18: errors 4 and 8 tell checksums, and nothing else does.
+    #[test]
+    fn checksums_are_told() {
+        let mut told: BTreeMap<u8, BTreeSet<ChecksumPair>> = BTreeMap::new();
+        for outcome in some_outcomes() {
+            let Outcome::Answered(_, Answer::Heard(calls)) = outcome else {
+                continue;
+            };
+            for call in calls {
+                told.entry(call.number()).or_default().insert(call.checksums());
+            }
+        }
+        for (number, checksums) in told {
+            match number {
+                4 | 8 => assert!(checksums.len() > 100 && checksums.iter().all(|pair| pair.differs()), "{number}"),
+                _ => assert_eq!(checksums, BTreeSet::from([ChecksumPair::NONE]), "{number}"),
+            }
+        }
     }
 
     /// Few samples on average, and never many.

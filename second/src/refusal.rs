@@ -109,6 +109,11 @@ impl Refusal {
     pub fn number(self) -> u8 {
         self as u8
     }
+
+    /// 02 C-18: whether the checksum found and the one worked out come with it.
+    pub fn tells_checksums(self) -> bool {
+        matches!(self, Refusal::HeaderChecksum | Refusal::FrameChecksum)
+    }
 }
 
 /// The refusals whose condition holds, in the order in which they stand.
@@ -136,5 +141,11 @@ mod tests {
         assert_eq!(CLOSE_CYCLE_ORDER.map(Refusal::number), [23, 18, 21]);
         assert_eq!(LISTEN_ORDER.map(Refusal::number), [23, 36]);
         assert_eq!(TOLD.map(Refusal::number), [4, 6, 7, 8, 30, 31, 32, 33, 34, 35]);
+    }
+
+    #[test]
+    fn two_refusals_tell_checksums() {
+        let telling = ENCODE_ORDER.into_iter().chain(TOLD).filter(|refusal| refusal.tells_checksums());
+        assert_eq!(telling.map(Refusal::number).collect::<Vec<u8>>(), [4, 8, 4, 8]);
     }
 }

@@ -3,8 +3,9 @@
 use std::ops::RangeInclusive;
 
 use crate::channel::Channel;
+use crate::checksum_pair::ChecksumPair;
 use crate::draft::{fair_cycle, fair_words, Draft};
-use crate::faults::{faulty_bytes, other_words};
+use crate::faults::other_words;
 use crate::frame::{Indicators, HIGHEST_CYCLE, HIGHEST_ID};
 use crate::marks::Mark;
 use crate::random::Random;
@@ -15,6 +16,7 @@ use crate::settings::{Settings, RANGES, STATIC_SLOTS, STATIC_WORDS};
 use crate::sheet_mark::SheetMark;
 use crate::slot::SlotStatus;
 use crate::status_numbers::{HeaderNumbers, StatusNumbers};
+use crate::unreadable::Unreadable;
 
 #[derive(Clone, Copy, Debug, PartialEq, Eq, PartialOrd, Ord)]
 pub enum Kind {
@@ -98,11 +100,14 @@ impl Scene {
         }
     }
 
-    /// The status with these marks, and with the reason and the frame that two of them ask for.
+    /// The status with these marks, with the reason and the frame that two of them ask for, and with checksums where a
+    /// third allows them.
     pub fn marked(&self, random: &mut Random, marks: u8) -> StatusNumbers {
-        let [content_error, valid] = [Mark::ContentError, Mark::Valid].map(|mark| marks & mark.bit() != 0);
+        let [syntax_error, content_error, valid] =
+            [Mark::SyntaxError, Mark::ContentError, Mark::Valid].map(|mark| marks & mark.bit() != 0);
         let reason = if content_error { any_reason(random, valid).number() } else { 0 };
-        let status = StatusNumbers { marks, reason, ..self.fresh() };
+        let checksums = if syntax_error { ChecksumPair::any(random) } else { ChecksumPair::NONE };
+        let status = StatusNumbers { marks, reason, checksums, ..self.fresh() };
         if !valid {
             return status;
         }
@@ -141,14 +146,15 @@ impl Scene {
     }
 
     /// A frame that would be good if there were no cause for this read refusal.
-    pub fn refused(&self, random: &mut Random, refusal: Refusal) -> Vec<u8> {
+    pub fn refused(&self, random: &mut Random, refusal: Refusal) -> Unreadable {
         let good = self.good(random);
-        faulty_bytes(random, good, &[refusal])
+        Unreadable::any(random, good, refusal)
     }
 
     /// A frame that is good on the other channel.
-    pub fn strange(&self, random: &mut Random) -> Vec<u8> {
-        Scene { channel: self.channel.other(), ..*self }.good(random).bytes()
+    pub fn strange(&self, random: &mut Random) -> Unreadable {
+        let good = Scene { channel: self.channel.other(), ..*self }.good(random);
+        Unreadable::by_trailer(&good, self.channel)
     }
 }
 
@@ -199,6 +205,7 @@ fn other_cycle(random: &mut Random, cycle: u8) -> u8 {
 mod tests {
     use super::*;
     use crate::frame;
+    use crate::refused::Refused;
 
     #[test]
     fn frames_are_as_asked_for() {
@@ -212,7 +219,9 @@ mod tests {
             let wrong = scene.missing(&mut random, scene.kind.tests());
             assert!(wrong.id != scene.slot && wrong.cycle != scene.cycle);
             assert_eq!(frame::read(channel, &wrong.bytes()), Ok(wrong.fields()));
-            assert_eq!(frame::read(channel, &scene.strange(&mut random)), Err(Refusal::FrameChecksum));
+            let strange = scene.strange(&mut random);
+            let refused = Refused { refusal: Refusal::FrameChecksum, checksums: strange.checksums };
+            assert_eq!(frame::read(channel, &strange.bytes), Err(refused));
         }
     }
 }

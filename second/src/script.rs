@@ -24,6 +24,20 @@ pub const MEMORY: usize = 270;
 pub const MOST_RUNS: usize = 3_000;
 pub const MOST_SAMPLES: usize = 24_000;
 
+/// The letters that a player knows; every other one is an unknown letter to it.
+#[derive(Clone, Copy, Debug, PartialEq, Eq)]
+pub enum Letters {
+    All,
+    /// 02 C-18: those of the C program, which reads frames and works out checksums.
+    Frames,
+}
+
+impl Letters {
+    pub fn know(self, letter: char) -> bool {
+        self == Letters::All || matches!(letter, 'F' | 'R' | 'P')
+    }
+}
+
 /// What ends a run before the script's end, in the words and the order of REPLAY.md.
 #[derive(Clone, Copy, Debug, PartialEq, Eq, PartialOrd, Ord)]
 pub enum Cause {
@@ -234,6 +248,7 @@ impl Command {
 mod tests {
     use super::*;
     use crate::channel::Channel;
+    use crate::checksum_pair::ChecksumPair;
     use crate::clock_numbers::{ListNumbers, RowNumbers};
     use crate::sheet_mark::SheetMark;
     use crate::status_numbers::HeaderNumbers;
@@ -243,7 +258,7 @@ mod tests {
     fn write_command_by_hand() {
         let script = b"W\x01\x1C\x02\x03\x04\x02\x00\xEE\xFF\x58\x02";
         let write = Write { channel: 1, flags: 0x1C, id: 0x302, cycle: 4, payload: vec![0xEE, 0xFF], room: LIMIT };
-        assert_eq!(Rest::of(script).take_command(), Ok(Command::Write(write.clone())));
+        assert_eq!(Rest::of(script, Letters::All).take_command(), Ok(Command::Write(write.clone())));
         let mut built = Vec::new();
         Command::Write(write).append_to(&mut built);
         assert_eq!(built, script);
@@ -262,7 +277,7 @@ mod tests {
         Command::read(255, &[]).append_to(&mut built);
         Command::bench(1, &[7, 8]).append_to(&mut built);
         assert_eq!(built, b"F\x00\x03\x00\x07\x08\x09R\xFF\x00\x00P\x03\x00\x01\x07\x08");
-        let mut rest = Rest::of(&built);
+        let mut rest = Rest::of(&built, Letters::Frames);
         assert_eq!(rest.take_command(), Ok(Command::checksum(0, &[7, 8, 9])));
         assert_eq!(rest.take_command(), Ok(Command::read(255, &[])));
         assert_eq!(rest.take_command(), Ok(Command::Bench(vec![1, 7, 8])));
@@ -320,6 +335,7 @@ mod tests {
             reason: 6,
             kept: false,
             header,
+            checksums: ChecksumPair { found: 0xE4E3E2E1, expected: 0xD4D3D2D1 },
         };
         let commands = [
             (b"S".to_vec(), Command::OpenSlot(Opening { settings, channel: 9, slot: 0x3231, cycle: 0x33 })),
@@ -334,7 +350,7 @@ mod tests {
                 b'S' => script.extend([&sheet[..], b"\x09\x31\x32\x33", MARK].concat()),
                 b'T' => {
                     let status = b"\x01\x50\x51\x52\xEE\x06\x00\xFF\x53\x54\x55\x56\x57\x58";
-                    script.extend([&sheet[..], status, MARK].concat())
+                    script.extend([&sheet[..], status, MARK, b"\xE1\xE2\xE3\xE4\xD1\xD2\xD3\xD4"].concat())
                 }
                 _ => (),
             }
@@ -395,9 +411,12 @@ mod tests {
     }
 
     fn assert_both_ways(script: &[u8], command: &Command) {
-        let mut rest = Rest::of(script);
+        let mut rest = Rest::of(script, Letters::All);
         assert_eq!(rest.take_command().as_ref(), Ok(command));
         assert!(rest.is_empty());
+        let broken = Rest::of(script, Letters::Frames).take_command().err().map(|broken| broken.cause);
+        let unknown = !"FRP".contains(command.letter());
+        assert_eq!(broken, unknown.then_some(Cause::UnknownLetter));
         let mut built = Vec::new();
         command.append_to(&mut built);
         assert_eq!(built, script);

@@ -1,6 +1,7 @@
-//! Judgement of one slot on one channel by 01 "Judging a slot" and "Refusal numbers", both as 02 C-15 amends them.
+//! Judgement of one slot on one channel by 01 "Judging a slot" and "Refusal numbers", both as 02 C-15 and C-18 amend them.
 
 use crate::channel::Channel;
+use crate::checksum_pair::ChecksumPair;
 use crate::frame::{self, Fields, HIGHEST_CYCLE, HIGHEST_ID};
 use crate::marks::{Mark, Marks};
 use crate::reason::{Reason, Test};
@@ -17,6 +18,8 @@ pub struct SlotStatus {
     pub marks: Marks,
     pub reason: Option<Reason>,
     pub kept: Option<Fields>,
+    /// 02 C-18: those that the first syntax error told, which may be none.
+    pub checksums: ChecksumPair,
 }
 
 pub enum Event<'a> {
@@ -27,7 +30,7 @@ pub enum Event<'a> {
 
 /// What one arrival comes to.
 enum Verdict {
-    Unreadable,
+    Unreadable(ChecksumPair),
     Missed(Test),
     Good(Fields),
 }
@@ -67,15 +70,15 @@ impl SlotStatus {
     }
 
     fn judge(&self, bytes: &[u8]) -> Verdict {
-        let Ok(fields) = frame::read(self.channel.number(), bytes) else {
-            return Verdict::Unreadable;
-        };
-        self.misses(&fields).first().map_or(Verdict::Good(fields), |first| Verdict::Missed(*first))
+        match frame::read(self.channel.number(), bytes) {
+            Err(refused) => Verdict::Unreadable(refused.checksums),
+            Ok(fields) => self.misses(&fields).first().map_or(Verdict::Good(fields), |first| Verdict::Missed(*first)),
+        }
     }
 
     fn take_in(&mut self, verdict: Verdict) {
         match verdict {
-            Verdict::Unreadable => self.marks.set(Mark::SyntaxError),
+            Verdict::Unreadable(checksums) => self.set_syntax_error(checksums),
             Verdict::Missed(test) => self.set_content_error(Reason::Missed(test)),
             // 02 C-15: the first good frame stays the kept one, and one like it is a second frame as well.
             Verdict::Good(_) if self.marks.has(Mark::Valid) => self.set_content_error(Reason::SecondGoodFrame),
@@ -84,6 +87,14 @@ impl SlotStatus {
                 self.kept = Some(fields);
             }
         }
+    }
+
+    /// What the first one told stays, also where that was nothing.
+    fn set_syntax_error(&mut self, checksums: ChecksumPair) {
+        if !self.marks.has(Mark::SyntaxError) {
+            self.checksums = checksums;
+        }
+        self.marks.set(Mark::SyntaxError);
     }
 
     /// The first reason stays.
@@ -119,13 +130,14 @@ impl SlotStatus {
         self.marks.has(Mark::OwnSending) && arrived.into_iter().any(|mark| self.marks.has(mark))
     }
 
-    /// 01 "Refusal numbers" and 02 C-15: what makes a slot status sound.
+    /// 01 "Refusal numbers", 02 C-15 and C-18: what makes a slot status sound.
     pub fn is_sound(&self) -> bool {
         self.would_open()
             && self.reason.is_some() == self.marks.has(Mark::ContentError)
             && self.kept.is_some() == self.marks.has(Mark::Valid)
             && self.kept.iter().all(|kept| frame::could_be_read(kept) && self.misses(kept).is_empty())
             && (self.reason != Some(Reason::SecondGoodFrame) || self.marks.has(Mark::Valid))
+            && (self.checksums.is_none() || self.marks.has(Mark::SyntaxError))
             && self.marks.has(Mark::Conflict) == self.sent_and_arrived()
     }
 

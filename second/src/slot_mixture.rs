@@ -1,9 +1,11 @@
 //! Slot commands at random: lifelike histories on slots that were opened and on statuses that were put.
 
+use crate::checksum_pair::ChecksumPair;
 use crate::draft::Draft;
 use crate::faults::{faulty_opening, some_faults, wrong_value};
 use crate::frame::Fields;
 use crate::history::{with_conflict, Happening, Sort};
+use crate::marks::Mark;
 use crate::mixture::{any_size, damaged};
 use crate::random::Random;
 use crate::reason::{Reason, Test};
@@ -12,6 +14,7 @@ use crate::scene::Scene;
 use crate::script::Command;
 use crate::settings::{Settings, FIELDS};
 use crate::status_numbers::{HeaderNumbers, StatusNumbers};
+use crate::unreadable::Unreadable;
 
 const MOST_EVENTS: usize = 8;
 
@@ -20,8 +23,9 @@ pub fn episode(random: &mut Random) -> Vec<Command> {
     let scene = Scene::any(random);
     let usual = scene.good(random);
     let mut commands = vec![start(random, &scene), Command::Show];
+    let row = random.one_in(4);
     for _ in 0..random.between(1, MOST_EVENTS) {
-        commands.push(event(random, &scene, &usual));
+        commands.push(if row { syntax_error(random, &scene, &usual) } else { event(random, &scene, &usual) });
         if !random.one_in(5) {
             commands.push(Command::Show);
         }
@@ -31,11 +35,12 @@ pub fn episode(random: &mut Random) -> Vec<Command> {
 
 /// Seven in ten are sound.
 fn start(random: &mut Random, scene: &Scene) -> Command {
-    match random.below(20) {
-        0..=8 => scene.open(),
-        9 | 10 => opening_with_some_faults(random),
-        11..=15 => Command::PutStatus(sound(random, scene)),
-        16..=18 => Command::PutStatus(changed(random, scene)),
+    match random.below(22) {
+        0..=9 => scene.open(),
+        10 | 11 => opening_with_some_faults(random),
+        12..=16 => Command::PutStatus(sound(random, scene)),
+        17..=19 => Command::PutStatus(changed(random, scene)),
+        20 => Command::PutStatus(with_checksums_alone(random, scene)),
         _ => Command::PutStatus(wild(random)),
     }
 }
@@ -47,7 +52,7 @@ fn opening_with_some_faults(random: &mut Random) -> Command {
 
 /// Of the good frames half are the usual one, so that equal ones come behind each other (02 C-15).
 fn event(random: &mut Random, scene: &Scene, usual: &Draft) -> Command {
-    match random.below(20) {
+    match random.below(22) {
         0..=2 => Happening::Good(usual.clone()).command(),
         3..=5 => Happening::Good(scene.good(random)).command(),
         6..=8 => frame_with_some_misses(random, scene),
@@ -55,13 +60,28 @@ fn event(random: &mut Random, scene: &Scene, usual: &Draft) -> Command {
             let good = scene.good(random);
             Command::Arrived(damaged(random, &good))
         }
-        11 => Command::Arrived(scene.strange(random)),
+        11 => Command::Arrived(scene.strange(random).bytes),
         12 => random_bytes(random),
         13 => Happening::any(random, scene, Sort::NoBytes).command(),
         14 | 15 => Happening::any(random, scene, Sort::Refused).command(),
         16 | 17 => Command::Boundary,
+        18 | 19 => telling_checksums(random, scene),
         _ => Command::OwnSending,
     }
+}
+
+/// 02 C-18: one of a row of syntax errors, most of which tell checksums, with a good frame between them now and then.
+fn syntax_error(random: &mut Random, scene: &Scene, usual: &Draft) -> Command {
+    match random.below(8) {
+        0 => Happening::Good(usual.clone()).command(),
+        1 | 2 => Happening::any(random, scene, Sort::Refused).command(),
+        _ => telling_checksums(random, scene),
+    }
+}
+
+fn telling_checksums(random: &mut Random, scene: &Scene) -> Command {
+    let good = scene.good(random);
+    Command::Arrived(Unreadable::telling(random, good).bytes)
 }
 
 fn frame_with_some_misses(random: &mut Random, scene: &Scene) -> Command {
@@ -74,16 +94,23 @@ fn random_bytes(random: &mut Random) -> Command {
     Command::Arrived(random.bytes(size))
 }
 
-/// Any marks, with "conflict" right and with a reason and a frame where they ask for them.
+/// Any marks, with "conflict" right, with a reason and a frame where they ask for them, and with checksums where they
+/// allow them.
 fn sound(random: &mut Random, scene: &Scene) -> StatusNumbers {
     let marks = with_conflict(random.below(64) as u8);
     scene.marked(random, marks)
 }
 
+/// 02 C-18: sound but for checksums without "syntax error".
+fn with_checksums_alone(random: &mut Random, scene: &Scene) -> StatusNumbers {
+    let marks = random.below(64) as u8 & !Mark::SyntaxError.bit();
+    StatusNumbers { checksums: ChecksumPair::some(random), ..scene.marked(random, with_conflict(marks)) }
+}
+
 /// A sound status with one thing changed, which leaves it sound or not.
 fn changed(random: &mut Random, scene: &Scene) -> StatusNumbers {
     let sound = sound(random, scene);
-    match random.below(12) {
+    match random.below(13) {
         0 | 1 => StatusNumbers { marks: sound.marks ^ one_bit(random, 8) as u8, ..sound },
         2 => StatusNumbers { reason: any_reason(random), ..sound },
         3 => StatusNumbers { kept: !sound.kept, ..sound },
@@ -94,6 +121,7 @@ fn changed(random: &mut Random, scene: &Scene) -> StatusNumbers {
         8 => StatusNumbers { header: with_other_number(random, sound.header), ..sound },
         9 => StatusNumbers { header: with_other_number(random, sound.header).with_right_checksum(), ..sound },
         10 => StatusNumbers { header: HeaderNumbers::of(&missing_one(random, scene)), ..sound },
+        11 => StatusNumbers { checksums: ChecksumPair::some(random), ..sound },
         _ => StatusNumbers { header: HeaderNumbers::of(&scene.good(random).fields()), ..sound },
     }
 }
@@ -153,14 +181,18 @@ fn wild(random: &mut Random) -> StatusNumbers {
         reason: any_reason(random),
         kept: random.coin(),
         header,
+        checksums: ChecksumPair::any(random),
     }
 }
 
 #[cfg(test)]
 mod tests {
+    use std::collections::BTreeMap;
+
     use super::*;
     use crate::answer::Answer;
-    use crate::marks::Mark;
+    use crate::frame;
+    use crate::refused::Refused;
     use crate::replay::{Outcome, Replay};
 
     /// At least half of the events are accepted, and some of every sort are refused.
@@ -190,6 +222,53 @@ mod tests {
         let mut script = Vec::new();
         episodes.iter().flatten().for_each(|command| command.append_to(&mut script));
         assert!(Replay::of(&script).filter(shows_f).count() > 500);
+    }
+
+    /// 02 C-18: checksums are put that alone make a status unsound, the one found, the one expected or both of them, and
+    /// others that a syntax error makes sound.
+    #[test]
+    fn checksums_are_put_everywhere() {
+        let mut random = Random::from_seed(18);
+        let mut counts = BTreeMap::new();
+        for _ in 0..4_000 {
+            let scene = Scene::any(&mut random);
+            let Command::PutStatus(put) = start(&mut random, &scene) else {
+                continue;
+            };
+            let [found, expected] = [put.checksums.found, put.checksums.expected].map(|checksum| checksum > 0);
+            let otherwise = StatusNumbers { checksums: ChecksumPair::NONE, ..put }.status().is_sound();
+            let sound = put.status().is_sound();
+            *counts.entry((found, expected, otherwise, sound)).or_insert(0) += 1;
+        }
+        for (found, expected) in [(true, false), (false, true), (true, true)] {
+            for sound in [false, true] {
+                assert!(counts[&(found, expected, true, sound)] > 20, "{counts:?}");
+            }
+        }
+    }
+
+    /// In slots that were opened: the numbers of the first two arrivals, 0 being a frame.
+    #[test]
+    fn syntax_errors_in_every_order() {
+        let mut random = Random::from_seed(19);
+        let mut orders = BTreeMap::new();
+        for _ in 0..8_000 {
+            let commands = episode(&mut random);
+            let Command::OpenSlot(opening) = &commands[0] else {
+                continue;
+            };
+            let numbers = commands.iter().filter_map(|command| match command {
+                Command::Arrived(bytes) => {
+                    Some(frame::read(opening.channel, bytes).map_or_else(Refused::number, |_| 0))
+                }
+                _ => None,
+            });
+            let first: Vec<u8> = numbers.take(2).collect();
+            *orders.entry(first).or_insert(0) += 1;
+        }
+        for order in [[4, 8], [8, 4], [4, 4], [8, 8], [8, 0], [4, 0], [0, 8], [2, 4], [3, 8], [4, 2]] {
+            assert!(orders.get(&order[..]).is_some_and(|count| *count > 8), "{order:?} of {orders:?}");
+        }
     }
 
     fn puts_f(command: &Command, valid: bool) -> bool {

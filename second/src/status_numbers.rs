@@ -1,6 +1,7 @@
 //! A slot status in the numbers of a script, as `T` hands it in and `D` shows it.
 
 use crate::channel::Channel;
+use crate::checksum_pair::ChecksumPair;
 use crate::frame::{Fields, Indicators};
 use crate::marks::{Marks, NAMED_MARKS};
 use crate::reason::Reason;
@@ -56,6 +57,7 @@ pub struct StatusNumbers {
     pub reason: u8,
     pub kept: bool,
     pub header: HeaderNumbers,
+    pub checksums: ChecksumPair,
 }
 
 impl StatusNumbers {
@@ -70,6 +72,7 @@ impl StatusNumbers {
             reason: status.reason.map_or(0, Reason::number),
             kept: status.kept.is_some(),
             header: status.kept.as_ref().map(HeaderNumbers::of).unwrap_or_default(),
+            checksums: status.checksums,
         }
     }
 
@@ -82,6 +85,7 @@ impl StatusNumbers {
             marks: Marks::from_number(self.marks),
             reason: Reason::from_number(self.reason),
             kept: self.kept.then(|| self.header.fields()),
+            checksums: self.checksums,
         }
     }
 
@@ -100,7 +104,8 @@ impl StatusNumbers {
         let kept = [header.id, header.words.into(), header.checksum, header.cycle.into()];
         let numbers = [&opened[..], &found, &kept].concat();
         let rest: Vec<String> = numbers.iter().map(u16::to_string).collect();
-        format!("status {} {} {}", self.settings.numbers(), rest.join(" "), self.settings.mark)
+        let Settings { mark, .. } = self.settings;
+        format!("status {} {} {mark} {}", self.settings.numbers(), rest.join(" "), self.checksums)
     }
 }
 
@@ -123,15 +128,16 @@ mod tests {
             reason: 6,
             kept: true,
             header: HeaderNumbers { flags: 21, id: 117, words: 118, checksum: 119, cycle: 120 },
+            checksums: ChecksumPair { found: 121, expected: u32::MAX - 1 },
         }
     }
 
     #[test]
     fn every_number_has_its_place() {
         let line = "status 101 102 103 104 105 106 107 108 109 110 4294967295 1 1 65535 113 42 6 1 21 117 118 119 120";
-        let line = format!("{line} 4000000001");
+        let line = format!("{line} 4000000001 121 4294967294");
         assert_eq!(all_different().line(), line);
-        assert_eq!(StatusNumbers::default().line(), format!("status{}", " 0".repeat(24)));
+        assert_eq!(StatusNumbers::default().line(), format!("status{}", " 0".repeat(26)));
     }
 
     #[test]

@@ -5,6 +5,7 @@ use std::ops::RangeInclusive;
 use crate::bits;
 use crate::frame;
 use crate::refusal::{holding, refuse_first, Refusal};
+use crate::refused::Refused;
 
 /// How many low bits may stand at the front.
 pub const START_LENGTHS: RangeInclusive<u8> = 1..=15;
@@ -13,22 +14,27 @@ const LOW: bool = false;
 const HIGH: bool = true;
 
 /// Lays the packed bits of a frame over the front of the output and gives the number of bits.
-pub fn encode(channel: u8, start: u8, frame: &[u8], output: &mut [u8]) -> Result<usize, Refusal> {
-    refuse_first(&encode_causes(channel, start, frame, output.len()))?;
+pub fn encode(channel: u8, start: u8, frame: &[u8], output: &mut [u8]) -> Result<usize, Refused> {
+    // 02 C-18: where reading refuses the frame, all that it tells is told.
+    frame::read(channel, frame)?;
+    refuse_first(&own_causes(start, frame, output.len()))?;
     let stream = stream(start, frame);
     let packed = packed(&stream);
     output[..packed.len()].copy_from_slice(&packed);
     Ok(stream.len())
 }
 
-/// Every cause for a refusal of an encoding: those of reading the frame, as the reader gives them, then 24 and 25.
+/// Every cause for a refusal of an encoding: those of reading the frame, as the reader gives them, then its own.
 pub fn encode_causes(channel: u8, start: u8, frame: &[u8], room: usize) -> Vec<Refusal> {
-    let mut causes = frame::read_causes(channel, frame);
-    causes.extend(holding([
+    [frame::read_causes(channel, frame), own_causes(start, frame, room)].concat()
+}
+
+/// In the order 24, 25.
+fn own_causes(start: u8, frame: &[u8], room: usize) -> Vec<Refusal> {
+    holding([
         (Refusal::StartLength, !START_LENGTHS.contains(&start)),
         (Refusal::PackedOutput, room < packed(&stream(start, frame)).len()),
-    ]));
-    causes
+    ])
 }
 
 /// Start bits low, the frame start bit high, a high and a low bit before each byte, at the end a low and a high bit.
@@ -64,6 +70,7 @@ pub fn packed_size(start: u8, frame_size: usize) -> usize {
 mod tests {
     use super::*;
     use crate::channel::Channel;
+    use crate::checksum_pair::ChecksumPair;
     use crate::listed_frames::{LONG, SHORT};
 
     /// 002 B.4.12, table B-21.
@@ -101,16 +108,20 @@ mod tests {
     #[test]
     fn a_refusal_touches_nothing() {
         let frame = SHORT.bytes(Channel::A);
+        let wrong_header = [&[frame[0] ^ 0x10], &frame[1..]].concat();
         let cases = [
-            (1, 1, &frame[..], 11, Refusal::FrameChecksum),
-            (2, 0, &frame[..7], 0, Refusal::Channel),
-            (0, 0, &frame[..], 0, Refusal::StartLength),
-            (0, 16, &frame[..], 13, Refusal::StartLength),
-            (0, 1, &frame[..], 10, Refusal::PackedOutput),
+            (1, 1, &frame[..], 11, Refusal::FrameChecksum, [0xD05EEA, 0x3BD08F]),
+            (1, 16, &frame[..], 0, Refusal::FrameChecksum, [0xD05EEA, 0x3BD08F]),
+            (0, 1, &wrong_header[..], 11, Refusal::HeaderChecksum, [0x69F, 0x35D]),
+            (2, 0, &frame[..7], 0, Refusal::Channel, [0, 0]),
+            (0, 0, &frame[..], 0, Refusal::StartLength, [0, 0]),
+            (0, 16, &frame[..], 13, Refusal::StartLength, [0, 0]),
+            (0, 1, &frame[..], 10, Refusal::PackedOutput, [0, 0]),
         ];
-        for (channel, start, frame, room, refusal) in cases {
+        for (channel, start, frame, room, refusal, [found, expected]) in cases {
             let mut output = vec![0x3C; room];
-            assert_eq!(encode(channel, start, frame, &mut output), Err(refusal));
+            let refused = Refused { refusal, checksums: ChecksumPair { found, expected } };
+            assert_eq!(encode(channel, start, frame, &mut output), Err(refused));
             assert!(output.iter().all(|byte| *byte == 0x3C));
         }
     }

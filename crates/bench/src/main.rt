@@ -1,4 +1,5 @@
-// Reads a channel byte and frame bytes from standard input, and writes one line: `accepted ID CYCLE WORDS` or `refused N`.
+// Reads a channel byte and frame bytes from standard input, and writes one line: `accepted ID CYCLE WORDS`, or `refused N`, for 4 and
+// 8 with the checksum found and the one expected.
 // The line is made by the library `bench_line`, by the front of the input alone; the program only reads and writes.
 ghost use Prim.Native.Nat.{_≤_};
 ghost use mathlib.Core.Path.{_≡_};

@@ -2,11 +2,11 @@
 use Prim.Native.Nat.{ℕ, zero, suc, _+_, _*_, _-_, _/_, _%_, _^_, _<_, _≤_}
 use mathlib.Core.Path.{_≡_, refl, subst}
 use mathlib.Core.List.{List, [], _∷_, _++_}
-use native.Mathlib.Nat.{pow-suc}
+use native.Mathlib.Nat.{one-le-pow, pow-suc}
 use native.Mathlib.Omega.{arith}
 use lib.Dec.{ltb}
 use lib.ListN.{length, length-append}
-use borrow.Author.Tests.{ltb-true, ltb-false, lt-ltb}
+use borrow.Author.Tests.{ltb-true, ltb-false, lt-ltb, le-ltb}
 use Rattle.numbers.proofs.Walk.{cases}
 use Rattle.bench_line.specs.Decimal.{digit, decimalWithin, decimal}
 use Rattle.bench_claims.specs.Decimal.{valueFrom, AreDigits, NoLeadingZero, DecimalExactly}
@@ -94,3 +94,20 @@ within-short (suc k) (suc most) n h =
 
 pub decimal-short : (k n : ℕ) → n < 10 ^ suc k → length (decimal n) ≤ suc k
 decimal-short k n h = within-short k (suc n) n h
+
+-- one that is no smaller has more
+within-long : (k most n : ℕ) → 10 ^ k ≤ n → n < most → k < length (decimalWithin most n)
+unfolding decimalWithin
+within-long k zero n low high = absurd (omega arith)
+within-long zero (suc most) n low high =
+    let joined = length-append (decimalWithin most (n / 10)) (digit (n % 10) ∷ []) in
+    cases (ltb n 10) (λ t. rw t (omega arith)) (λ t. rw (t, joined) (omega arith))
+within-long (suc k) (suc most) n low high =
+    let one : 1 ≤ 10 ^ k = one-le-pow k 10 (omega arith) in
+    let above : 10 ^ k * 10 ≤ n = subst (λ (x : ℕ). x ≤ n) (pow-suc 10 k) low in
+    let next : k < length (decimalWithin most (n / 10)) = within-long k most (n / 10) (omega arith) (omega arith) in
+    let joined = length-append (decimalWithin most (n / 10)) (digit (n % 10) ∷ []) in
+    rw (le-ltb n 10 (omega arith), joined) (omega arith)
+
+pub decimal-long : (k n : ℕ) → 10 ^ k ≤ n → k < length (decimal n)
+decimal-long k n h = within-long k (suc n) n h (omega arith)

@@ -8,9 +8,12 @@ use lib.Dec.{ltb}
 use lib.ListN.{length, take, length-append}
 use borrow.Author.Tests.{le-ltb, lt-ltb}
 use Rattle.refusal.specs.Refusal.{first}
+use Rattle.base_types.specs.declared.channel.Channel.{Channel}
+use Rattle.base_types.specs.declared.channel.Channel.the-variants.{A}
+use Rattle.base_types.specs.Channel.{channelOf}
 use Rattle.frame.specs.Read.{headerRead, tells, refusals}
 use Rattle.lent_bytes.specs.Over.{over}
-use Rattle.bench_line.specs.Line.{acceptedWord, refusedWord, behindSpace, lineFeed, lineBy, lineOf, front, longest, LineSays}
+use Rattle.bench_line.specs.Line.{acceptedWord, refusedWord, behindSpace, lineFeed, behindNumber, lineBy, lineOf, front, longest, LineSays}
 use Rattle.bench_claims.proofs.Line.{front-decides, within-longest}
 
 pub says-by-front : (input before after : List ℕ) (size : ℕ) → LineSays (take front input) before after size → LineSays input before after size
@@ -22,16 +25,18 @@ says-by-front input before after size s =
     }
 
 -- a line has at least its line feed
-line-by : (n : ℕ) (bytes : List ℕ) → 0 < length (lineBy (tells n bytes))
-line-by zero bytes =
+line-by : (n : ℕ) (channel : Channel) (bytes : List ℕ) → 0 < length (lineBy (tells n channel bytes))
+line-by zero channel bytes =
     let h = headerRead bytes in
     omega
     (arith, length-append (acceptedWord ++ behindSpace (h .id .0) ++ behindSpace (h .cycle .0) ++ behindSpace (h .words)) lineFeed)
-line-by (suc n) bytes = omega (arith, length-append (refusedWord ++ behindSpace (suc n)) lineFeed)
+line-by (suc n) channel bytes =
+    let behind = behindNumber (suc n) (tells (suc n) channel bytes .checksums) in
+    omega (arith, length-append (refusedWord ++ behindSpace (suc n) ++ behind) lineFeed)
 
 line-some : (input : List ℕ) → 0 < length (lineOf input)
-line-some [] = line-by 1 []
-line-some (channel ∷ bytes) = line-by (first (refusals channel bytes)) bytes
+line-some [] = line-by 1 A []
+line-some (channel ∷ bytes) = line-by (first (refusals channel bytes)) (channelOf channel) bytes
 
 -- output of the longest line's size takes every line
 pub taken-whole : (input before after : List ℕ) (size : ℕ) → length before ≡ longest → LineSays input before after size

@@ -6,6 +6,7 @@ use mathlib.Core.List.{List, [], _∷_}
 use lib.ListN.{length, take}
 use Rattle.header.specs.Layout.{longestFrame}
 use Rattle.base_types.specs.Channel.{notAChannel}
+use Rattle.checksum.specs.Pair.{noChecksums}
 use Rattle.bench_line.specs.Line.{refusedLine, lineOf, front, longest, LineSays}
 
 -- Any two results that the statement allows are equal: the size and the whole output.
@@ -17,18 +18,18 @@ LineOne =
 
 -- "No input counts as 1."
 abbrev pub NoInput : Type 0
-NoInput = lineOf [] ≡ refusedLine 1
+NoInput = lineOf [] ≡ refusedLine 1 noChecksums
 
 -- "More than 263 input bytes: the channel is tested first, then refused 3."
 abbrev pub TooLong : Type 0
 TooLong =
-    (channel : ℕ) (bytes : List ℕ) → longestFrame < length bytes → lineOf (channel ∷ bytes) ≡ refusedLine (cond (notAChannel channel) 1 3)
+    (channel : ℕ) (bytes : List ℕ) → longestFrame < length bytes → lineOf (channel ∷ bytes) ≡ refusedLine (cond (notAChannel channel) 1 3) noChecksums
 
 -- So what lies behind the front changes no line, and a program may leave it unread.
 abbrev pub FrontDecides : Type 0
 FrontDecides = (input : List ℕ) → lineOf (take front input) ≡ lineOf input
 
--- The longest line is `accepted 2047 63 127` with its line feed.
+-- The longest line is `refused 8` with two checksums of eight digits and its line feed.
 abbrev pub WithinLongest : Type 0
 WithinLongest = (input : List ℕ) → length (lineOf input) ≤ longest
 

@@ -1,12 +1,13 @@
 -- The line of the bench program: "The bench program reads a channel byte and frame bytes and writes one line".
 use Prim.Native.Nat.{ℕ, _+_}
 use mathlib.Core.Path.{_≡_}
-use mathlib.Core.Bool.{Bool, cond}
+use mathlib.Core.Bool.{Bool, _||_, cond}
 use mathlib.Core.List.{List, [], _∷_, _++_}
 use lib.ListN.{length}
-use lib.Dec.{ltb}
+use lib.Dec.{eqb, ltb}
 use Rattle.header.specs.Layout.{longestFrame}
 use Rattle.refusal.specs.Refusal.{ifAccepted}
+use Rattle.checksum.specs.declared.pair.ChecksumPair.{ChecksumPair}
 use Rattle.header.specs.declared.Header.{Header}
 use Rattle.frame.specs.declared.Reading.{Reading}
 use Rattle.frame.specs.Read.{Told, told, refused, rule}
@@ -46,19 +47,25 @@ lineFeed = 10 ∷ []
 abbrev pub acceptedLine : Header → List ℕ
 acceptedLine h = acceptedWord ++ behindSpace (h .id .0) ++ behindSpace (h .cycle .0) ++ behindSpace (h .words) ++ lineFeed
 
--- "refused N"
-abbrev pub refusedLine : ℕ → List ℕ
-refusedLine n = refusedWord ++ behindSpace n ++ lineFeed
+-- "refused N FOUND EXPECTED in decimal for these two only" (02, C-18), which are 4 and 8; "refused N" for any other.
+abbrev pub tellsChecksums : ℕ → Bool
+tellsChecksums n = eqb n 4 || eqb n 8
+
+abbrev pub behindNumber : ℕ → ChecksumPair → List ℕ
+behindNumber n checksums = cond (tellsChecksums n) (behindSpace (checksums .found) ++ behindSpace (checksums .expected)) []
+
+abbrev pub refusedLine : ℕ → ChecksumPair → List ℕ
+refusedLine n checksums = refusedWord ++ behindSpace n ++ behindNumber n checksums ++ lineFeed
 
 abbrev pub lineBy : Told → List ℕ
-lineBy t = ifAccepted (t .number) (acceptedLine (t .header)) (refusedLine (t .number))
+lineBy t = ifAccepted (t .number) (acceptedLine (t .header)) (refusedLine (t .number) (t .checksums))
 
 abbrev pub lineOf : List ℕ → List ℕ
 lineOf input = lineBy (readInput input)
 
--- How many bytes the longest line has: `accepted 2047 63 127`, and its line feed.
+-- How many bytes the longest line has: `refused 8` with two checksums of eight digits, and its line feed.
 abbrev pub longest : ℕ
-longest = 21
+longest = 28
 
 -- ---- the statement
 

@@ -6,13 +6,14 @@ ghost use mathlib.Core.Path.{_≡_};
 ghost use Prim.Native.Nat.{_+_, _≤_};
 ghost use lib.ListN.{length};
 ghost use Rattle.frame.specs.Read.{told};
-ghost use Rattle.bench_line.specs.Line.{front as Line·front, longest as Line·longest, behindSpace, acceptedLine, refusedLine, lineBy, ReadingOfInput, LineSays};
+ghost use Rattle.bench_line.specs.Line.{front as Line·front, longest as Line·longest, behindSpace, acceptedLine, behindNumber, refusedLine, lineBy, ReadingOfInput, LineSays};
 ghost use Rattle.bench_line.specs.Putting.{Puts, numberRoom, lineRoom};
+use checksum::ChecksumPair;
 use frame::Reading;
 use header::Header;
 
-// The longest line, `accepted 2047 63 127` and its line feed. Output of this size takes every line.
-pub const LONGEST: usize = 21;
+// The longest line, `refused 8` with two checksums of eight digits and its line feed. Output of this size takes every line.
+pub const LONGEST: usize = 28;
 
 // How much of an input tells its line: a channel byte, the longest frame, and one byte more. What lies behind changes no line.
 pub const FRONT: usize = 1 + Header::LONGEST_FRAME + 1;
@@ -54,7 +55,7 @@ fn read_input(input: &[u8]) -> Reading
     frame::read(input[0], &input[1..])
 }
 
-// `accepted ID CYCLE WORDS` or `refused N`, and the line feed.
+// `accepted ID CYCLE WORDS`, or `refused N` with what is told beside it, and the line feed.
 fn put_line(line: &mut [u8], reading: Reading) -> usize
     requires { ⌜ length (now line) ≡ lineRoom ⌝ }
     ensures { λ r. ⌜ Puts (lineBy (told reading)) 0 r (now (line .entry)) (now (line .exit)) ⌝ }
@@ -62,19 +63,34 @@ fn put_line(line: &mut [u8], reading: Reading) -> usize
 {
     let number = reading.number();
     if number != 0 {
-        return put_refused(line, number);
+        return put_refused(line, number, reading.checksums());
     }
     put_accepted(line, reading.header())
 }
 
-fn put_refused(line: &mut [u8], number: u8) -> usize
+fn put_refused(line: &mut [u8], number: u8, checksums: ChecksumPair) -> usize
     requires { ⌜ length (now line) ≡ lineRoom ⌝ }
-    ensures { λ r. ⌜ Puts (refusedLine number) 0 r (now (line .entry)) (now (line .exit)) ⌝ }
+    ensures { λ r. ⌜ Puts (refusedLine number checksums) 0 r (now (line .entry)) (now (line .exit)) ⌝ }
     ensures { λ r. ⌜ r ≤ lineRoom ⌝ }
 {
     let at = put(line, 0, b"refused");
     let at = put_decimal(line, at, number as u64);
+    let at = put_checksums(line, at, number, checksums);
     put(line, at, b"\n")
+}
+
+// `FOUND EXPECTED` behind 4 and 8, and nothing behind any other number.
+fn put_checksums(line: &mut [u8], at: usize, number: u8, checksums: ChecksumPair) -> usize
+    requires { ⌜ at + numberRoom + numberRoom ≤ length (now line) ⌝ }
+    ensures { λ r. ⌜ Puts (behindNumber number checksums) at r (now (line .entry)) (now (line .exit)) ⌝ }
+    ensures { λ r. ⌜ r ≤ at + numberRoom + numberRoom ⌝ }
+{
+    let tells_checksums = (number == 4) | (number == 8);
+    if !tells_checksums {
+        return at;
+    }
+    let at = put_decimal(line, at, checksums.found as u64);
+    put_decimal(line, at, checksums.expected as u64)
 }
 
 fn put_accepted(line: &mut [u8], header: Header) -> usize

@@ -2,7 +2,9 @@
 //
 // Entry: `frame_checksum`, on a channel number and bytes. For the crates above: `header_checksum` and `frame_checksum_on`. Both divide as
 // the loop of document 002, section 4.5.1, does: the header checksum bit by bit, the frame checksum a byte at a time, by the table of the
-// crate `checksum_table`.
+// crate `checksum_table`. `ChecksumPair` is what a comparison tells: the checksum found, and the one worked out.
+mod pair;
+
 ghost use mathlib.Core.Path.{_≡_};
 ghost use mathlib.Core.List.{[], _∷_};
 ghost use Prim.Native.Nat.{_<_, _≤_, _^_, min};
@@ -12,6 +14,7 @@ ghost use Rattle.checksum.specs.Checksums.{headerPolynomial, headerDivis
 ghost use Rattle.checksum.specs.FrameChecksum.{told, FrameChecksumSays};
 use base_types::Channel;
 use base_types::Named;
+pub use pair::ChecksumPair;
 
 // What `frame_checksum` answers.
 pub enum Checksum {

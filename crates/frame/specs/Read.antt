@@ -3,17 +3,20 @@ use Prim.Native.Nat.{ℕ, _+_, _-_}
 use mathlib.Core.Path.{_≡_}
 use mathlib.Core.Bool.{cond}
 use mathlib.Core.List.{List, [], _∷_}
+use lib.Dec.{eqb}
 use lib.ListN.{length, take, drop}
 use Rattle.refusal.specs.Refusal.{Line, _when_, first, ifAccepted}
 use Rattle.division.specs.Bits.{number, bytesBits}
 use Rattle.base_types.specs.declared.channel.Channel.{Channel}
 use Rattle.base_types.specs.Channel.{notAChannel, channelOf}
+use Rattle.checksum.specs.declared.pair.ChecksumPair.{ChecksumPair}
+use Rattle.checksum.specs.Pair.{noChecksums}
 use Rattle.header.specs.declared.Header.{Header}
-use Rattle.header.specs.Layout.{headerIn, noHeader}
+use Rattle.header.specs.Layout.{headerChecksums, headerIn, noHeader}
 use Rattle.header.specs.Refusals.{startupWithoutSync}
 use Rattle.frame.specs.declared.Reading.{Reading}
 use Rattle.frame.specs.declared.Reading.the-variants.{Accepted, NotAChannel, TooShort, BadSize, HeaderChecksumDiffers, WordsNotSize, IdZero, StartupWithoutSync, FrameChecksumDiffers}
-use Rattle.frame.specs.Refusals.{tooShort, badSize, headerChecksumDiffers, wordsNotSize, idZero, frameChecksumDiffers}
+use Rattle.frame.specs.Refusals.{tooShort, badSize, headerChecksumDiffers, wordsNotSize, idZero, frameChecksums, frameChecksumDiffers}
 
 -- ---- what is read
 
@@ -31,24 +34,29 @@ trailerRead bytes = number (bytesBits (drop (length bytes - 3) bytes))
 
 -- ---- what reading answers
 
--- What an answer says in 01's numbers: the refusal number, 0 for none, and the header.
+-- What an answer says in 01's numbers: the refusal number, 0 for none, the header, and the checksums that were found and worked out.
 pub record Told : Type 0 where
   pub number : ℕ
   pub header : Header
+  pub checksums : ChecksumPair
+
+-- A refusal that tells two checksums, and one that tells 0 for both.
+abbrev pub refusedWith : ℕ → ChecksumPair → Told
+refusedWith n checksums = record { number = n; header = noHeader; checksums = checksums }
 
 abbrev pub refused : ℕ → Told
-refused n = record { number = n; header = noHeader }
+refused n = refusedWith n noChecksums
 
 abbrev pub told : Reading → Told
-told (Accepted h) = record { number = 0; header = h }
+told (Accepted h) = record { number = 0; header = h; checksums = noChecksums }
 told NotAChannel = refused 1
 told TooShort = refused 2
 told BadSize = refused 3
-told HeaderChecksumDiffers = refused 4
+told (HeaderChecksumDiffers checksums) = refusedWith 4 checksums
 told WordsNotSize = refused 5
 told IdZero = refused 6
 told StartupWithoutSync = refused 7
-told FrameChecksumDiffers = refused 8
+told (FrameChecksumDiffers checksums) = refusedWith 8 checksums
 
 -- The refusals of reading on a channel, and, before them, that of a number that names none: "Read: 1 to 8 as numbered".
 abbrev pub refusalsOn : Channel → List ℕ → List Line
@@ -65,16 +73,28 @@ refusalsOn channel bytes =
 abbrev pub refusals : ℕ → List ℕ → List Line
 refusals channel bytes = 1 when notAChannel channel ∷ refusalsOn (channelOf channel) bytes
 
--- What is right to tell of bytes, given the number of their refusal.
-abbrev pub tells : ℕ → List ℕ → Told
-tells refusal bytes = record { number = refusal; header = ifAccepted refusal (headerRead bytes) noHeader }
+-- "Refusals 4 and 8 shall also return the checksum found in the bytes and the one worked out; all other refusals return 0 for both" (02,
+-- C-18).
+abbrev pub checksumsBeside : ℕ → Channel → List ℕ → ChecksumPair
+checksumsBeside refusal channel bytes =
+    cond (eqb refusal 4) (headerChecksums (headerRead bytes))
+    (cond (eqb refusal 8) (frameChecksums channel bytes (trailerRead bytes)) noChecksums)
+
+-- What is right to tell of bytes on a channel, given the number of their refusal.
+abbrev pub tells : ℕ → Channel → List ℕ → Told
+tells refusal channel bytes =
+    record {
+      number = refusal;
+      header = ifAccepted refusal (headerRead bytes) noHeader;
+      checksums = checksumsBeside refusal channel bytes;
+    }
 
 -- What is right on a channel, and on one that is given by its number.
 abbrev pub ruleOn : Channel → List ℕ → Told
-ruleOn channel bytes = tells (first (refusalsOn channel bytes)) bytes
+ruleOn channel bytes = tells (first (refusalsOn channel bytes)) channel bytes
 
 abbrev pub rule : ℕ → List ℕ → Told
-rule channel bytes = tells (first (refusals channel bytes)) bytes
+rule channel bytes = tells (first (refusals channel bytes)) (channelOf channel) bytes
 
 abbrev pub partRule : ℕ → List ℕ → List ℕ
 partRule refusal bytes = ifAccepted refusal (payloadRead bytes) []

@@ -7,9 +7,11 @@ use lib.Dec.{eqb, ltb}
 use lib.ListN.{length, take}
 use Rattle.division.specs.Bits.{odd}
 use Rattle.base_types.specs.declared.channel.Channel.{Channel}
+use Rattle.checksum.specs.declared.pair.ChecksumPair.{ChecksumPair}
 use Rattle.checksum.specs.Checksums.{frameChecksum}
+use Rattle.checksum.specs.Pair.{differ}
 use Rattle.header.specs.declared.Header.{Header}
-use Rattle.header.specs.Layout.{longestFrame, headerChecksumOf}
+use Rattle.header.specs.Layout.{longestFrame, headerChecksums}
 
 -- 2: "fewer than 8 bytes".
 abbrev pub tooShort : List ℕ → Bool
@@ -21,7 +23,7 @@ badSize bytes = odd (length bytes) || ltb longestFrame (length bytes)
 
 -- 4: "header checksum differs".
 abbrev pub headerChecksumDiffers : Header → Bool
-headerChecksumDiffers header = not (eqb (header .checksum) (headerChecksumOf header))
+headerChecksumDiffers header = differ (headerChecksums header)
 
 -- 5: "8 + 2 x words is not the size".
 abbrev pub wordsNotSize : Header → List ℕ → Bool
@@ -31,6 +33,10 @@ wordsNotSize header bytes = not (eqb (8 + 2 * header .words) (length bytes))
 abbrev pub idZero : Header → Bool
 idZero header = eqb (header .id .0) 0
 
--- 8: "frame checksum differs": the trailer is not the checksum of all that stands before it.
+-- The frame checksum of a trailer, and that of all that stands before it.
+abbrev pub frameChecksums : Channel → List ℕ → ℕ → ChecksumPair
+frameChecksums channel bytes trailer = record { found = trailer; expected = frameChecksum channel (take (length bytes - 3) bytes) }
+
+-- 8: "frame checksum differs".
 abbrev pub frameChecksumDiffers : Channel → List ℕ → ℕ → Bool
-frameChecksumDiffers channel bytes trailer = not (eqb trailer (frameChecksum channel (take (length bytes - 3) bytes)))
+frameChecksumDiffers channel bytes trailer = differ (frameChecksums channel bytes trailer)

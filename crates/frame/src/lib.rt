@@ -7,19 +7,20 @@ ghost use denote.Ref.{ptr};
 ghost use Rattle.frame.specs.Read.{told, ReadSays, ReadOnSays, PayloadSays, PayloadLies, PartSays, PartLies};
 use base_types::Channel;
 use base_types::Named;
+use checksum::ChecksumPair;
 use header::Header;
 
-// What reading answers: the header, or what is wrong with the bytes.
+// What reading answers: the header, or what is wrong with the bytes. A checksum that differs comes with the one that was expected.
 pub enum Reading {
     Accepted(Header),
     NotAChannel,
     TooShort,
     BadSize,
-    HeaderChecksumDiffers,
+    HeaderChecksumDiffers(ChecksumPair),
     WordsNotSize,
     IdZero,
     StartupWithoutSync,
-    FrameChecksumDiffers,
+    FrameChecksumDiffers(ChecksumPair),
 }
 
 impl Reading {
@@ -32,11 +33,11 @@ impl Reading {
             Reading::NotAChannel => 1,
             Reading::TooShort => 2,
             Reading::BadSize => 3,
-            Reading::HeaderChecksumDiffers => 4,
+            Reading::HeaderChecksumDiffers(_) => 4,
             Reading::WordsNotSize => 5,
             Reading::IdZero => 6,
             Reading::StartupWithoutSync => 7,
-            Reading::FrameChecksumDiffers => 8,
+            Reading::FrameChecksumDiffers(_) => 8,
         }
     }
 
@@ -48,6 +49,17 @@ impl Reading {
             return Header::NONE;
         };
         read
+    }
+
+    // The checksum found in the bytes and the one worked out, 0 for both unless they differ (02, C-18).
+    pub fn checksums(self) -> ChecksumPair
+        ensures { λ r. ⌜ r ≡ told self .checksums ⌝ }
+    {
+        match self {
+            Reading::HeaderChecksumDiffers(checksums) => checksums,
+            Reading::FrameChecksumDiffers(checksums) => checksums,
+            _ => ChecksumPair::NONE,
+        }
     }
 }
 
@@ -79,8 +91,9 @@ pub fn read_on(channel: Channel, bytes: &[u8]) -> Reading
     // Worked out before 4 is tried (DECISIONS 70): a build that tries 6 before 5 then differs in the order alone, and is refused for it.
     let id = header.id.0;
     let size = 8 + 2 * header.words as usize;
-    if header.checksum != header::checksum_of(sent) {
-        return Reading::HeaderChecksumDiffers;
+    let checksums = header::checksums_of(sent);
+    if checksums.found != checksums.expected {
+        return Reading::HeaderChecksumDiffers(checksums);
     }
     if size != bytes.len() {
         return Reading::WordsNotSize;
@@ -93,8 +106,12 @@ pub fn read_on(channel: Channel, bytes: &[u8]) -> Reading
     }
     let end = bytes.len() - 3;
     let trailer = lent_bytes::number_in(&bytes[end..]);
-    if trailer != checksum::frame_checksum_on(channel, &bytes[0..end]) as u64 {
-        return Reading::FrameChecksumDiffers;
+    let checksums = ChecksumPair {
+        found: trailer as u32,
+        expected: checksum::frame_checksum_on(channel, &bytes[0..end]),
+    };
+    if checksums.found != checksums.expected {
+        return Reading::FrameChecksumDiffers(checksums);
     }
     Reading::Accepted(header)
 }

@@ -20,9 +20,9 @@ use Rattle.frame_claims.specs.Answers.{ReadOne, ReadOnOne, PayloadOne, W
 pub readingBy : read.Told → Reading
 readingBy t =
     getD
-    (reading.Accepted (t .header) ∷ reading.NotAChannel ∷ reading.TooShort ∷ reading.BadSize ∷ reading.HeaderChecksumDiffers ∷ reading.WordsNotSize
-    ∷ reading.IdZero ∷ reading.StartupWithoutSync ∷ [])
-    (t .number) reading.FrameChecksumDiffers
+    (reading.Accepted (t .header) ∷ reading.NotAChannel ∷ reading.TooShort ∷ reading.BadSize ∷ reading.HeaderChecksumDiffers (t .checksums)
+    ∷ reading.WordsNotSize ∷ reading.IdZero ∷ reading.StartupWithoutSync ∷ [])
+    (t .number) (reading.FrameChecksumDiffers (t .checksums))
 
 pub reading-by : (r : Reading) → readingBy (read.told r) ≡ r
 unfolding readingBy
@@ -30,11 +30,11 @@ reading-by (reading.Accepted h) = refl
 reading-by reading.NotAChannel = refl
 reading-by reading.TooShort = refl
 reading-by reading.BadSize = refl
-reading-by reading.HeaderChecksumDiffers = refl
+reading-by (reading.HeaderChecksumDiffers checksums) = refl
 reading-by reading.WordsNotSize = refl
 reading-by reading.IdZero = refl
 reading-by reading.StartupWithoutSync = refl
-reading-by reading.FrameChecksumDiffers = refl
+reading-by (reading.FrameChecksumDiffers checksums) = refl
 
 pub read-one : ReadOne
 read-one channel bytes = one-answer read.told readingBy reading-by

@@ -18,6 +18,7 @@ use Rattle.division.proofs.BytesLaws.{bytes-append, bytes-inj, are-bytes-of, ar
 use Rattle.base_types.specs.declared.channel.Channel.{Channel}
 use Rattle.base_types.specs.Channel.{notAChannel, channelOf}
 use Rattle.checksum.specs.Checksums.{frameDivision, frameChecksum}
+use Rattle.checksum.specs.Pair.{noChecksums}
 use Rattle.base_types.proofs.SlotLaws.{id-range}
 use Rattle.base_types.proofs.ChannelLaws.{named-is, is-named, one-channel}
 use Rattle.header.specs.declared.Header.{Header}
@@ -65,7 +66,8 @@ module _ {channel : ℕ} {bytes : List ℕ} {header : Header} {payload : List �
 
   pub frame-says : ReadSays channel bytes (Accepted header)
   frame-says =
-      ap (λ (h : Header). record { number = 0; header = h }) (sym (frame-header (f .frame))) ∙ ap (λ (n : ℕ). read.tells n bytes) (sym frame-none)
+      ap (λ (h : Header). record { number = 0; header = h; checksums = noChecksums }) (sym (frame-header (f .frame)))
+      ∙ ap (λ (n : ℕ). read.tells n (channelOf channel) bytes) (sym frame-none)
 
   pub frame-part : {part : List ℕ} → PayloadSays channel bytes part → part ≡ payload
   frame-part gives = gives ∙ if-accepted (first (read.refusals channel bytes)) (payloadRead bytes) [] frame-none ∙ frame-payload (f .frame)

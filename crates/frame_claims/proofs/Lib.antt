@@ -5,3 +5,4 @@ pub mod NullFrames
 pub mod Exact
 pub mod Damage
 pub mod Witnesses
+pub mod Checksums

@@ -4,7 +4,10 @@
 use Prim.Native.Nat.{ℕ}
 use mathlib.Core.Path.{_≡_}
 use mathlib.Core.List.{List, []}
+use mathlib.Core.Logic.{_⊎_}
 use Rattle.refusal.specs.Refusal.{InOrder}
+use Rattle.checksum.specs.declared.pair.ChecksumPair.{ChecksumPair}
+use Rattle.checksum.specs.Pair.{noChecksums}
 use Rattle.header.specs.declared.Fields.{Fields}
 use Rattle.frame.specs.declared.Reading.{Reading}
 use Rattle.writing.specs.declared.Writing.{Writing}
@@ -62,3 +65,19 @@ abbrev pub RefusedEmpty : Type 0
 RefusedEmpty =
     (channel : ℕ) (bytes payload : List ℕ) (r : Reading) → ReadSays channel bytes r → PayloadSays channel bytes payload
     → (read.told r .number ≡ 0 → ⊥) → payload ≡ []
+
+-- ---- the two checksums that a refusal tells
+
+-- "Refusals 4 and 8" (02, C-18).
+abbrev pub OfAChecksum : ℕ → Type 0
+OfAChecksum n = (n ≡ 4) ⊎ (n ≡ 8)
+
+-- Beside these two the checksums that are told differ; beside any other number, 0 among them, both are 0.
+pub record ToldWith (n : ℕ) (checksums : ChecksumPair) : Type 0 where
+  pub differing : OfAChecksum n → checksums .found ≡ checksums .expected → ⊥
+  pub none : (OfAChecksum n → ⊥) → checksums ≡ noChecksums
+
+abbrev pub ChecksumsTold : Type 0
+ChecksumsTold =
+    (channel : ℕ) (bytes : List ℕ) (r : Reading) → ReadSays channel bytes r
+    → ToldWith (read.told r .number) (read.told r .checksums)

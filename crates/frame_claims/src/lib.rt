@@ -3,8 +3,9 @@
 ghost use mathlib.Core.Path.{_≡_};
 ghost use mathlib.Core.Bool.{false};
 ghost use Rattle.refusal.specs.Refusal.{InOrder};
-ghost use Rattle.frame.specs.Read.{refusals as read·refusals};
+ghost use Rattle.frame.specs.Read.{told, refusals as read·refusals};
 ghost use Rattle.writing.specs.Write.{refusals as write·refusals};
+ghost use Rattle.frame_claims.specs.Answers.{ToldWith};
 ghost use Rattle.frame_claims.specs.Damage.{BothAccepted};
 ghost use Rattle.frame_claims.specs.Exact.{fieldsOf, AcceptsFrames, ReadingOf, PayloadOf, Wrote, Rewritten, Sent, Reread, RereadPayload};
 use frame::Reading;
@@ -16,6 +17,13 @@ pub fn read_number(channel: u8, bytes: &[u8]) -> u8
     ensures { λ r. ⌜ InOrder (read·refusals channel (now (bytes .entry))) r ⌝ }
 {
     frame::read(channel, bytes).number()
+}
+
+// What is read: with 4 and 8 two checksums that differ, and 0 for both with any other number.
+pub fn checksums_told(channel: u8, bytes: &[u8]) -> Reading
+    ensures { λ r. ⌜ ToldWith (told r .number) (told r .checksums) ⌝ }
+{
+    frame::read(channel, bytes)
 }
 
 // The number that writing gives: the first of 01's order whose condition holds. With any but 0 the output is as it was.

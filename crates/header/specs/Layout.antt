@@ -5,6 +5,7 @@ use mathlib.Core.Bool.{Bool, false}
 use mathlib.Core.List.{List, _∷_, _++_}
 use lib.ListN.{getD, take, drop}
 use Rattle.division.specs.Bits.{bits, number}
+use Rattle.checksum.specs.declared.pair.ChecksumPair.{ChecksumPair}
 use Rattle.checksum.specs.Checksums.{headerChecksum}
 use Rattle.header.specs.declared.Header.{Header}
 
@@ -29,6 +30,10 @@ wholeHeader h =
 -- The header checksum that belongs to a header: "over sync, startup, frame ID, payload length, in that order".
 abbrev pub headerChecksumOf : Header → ℕ
 headerChecksumOf h = headerChecksum (h .sync) (h .startup) (h .id .0) (h .words)
+
+-- The header checksum that stands in a header, and the one that belongs to it.
+abbrev pub headerChecksums : Header → ChecksumPair
+headerChecksums h = record { found = h .checksum; expected = headerChecksumOf h }
 
 -- The bit at a place, and the number in `width` bits from a place on. Places count from 0 in sending order.
 abbrev pub flag : ℕ → List Bool → Bool

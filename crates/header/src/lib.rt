@@ -1,14 +1,15 @@
 // The header of a frame (document 01, "Frame layout"): its fields, the 40 bits that they take, and what they are tested by.
 //
-// For the crates above: `Header` with its `checksum_due`, `Fields`, of which a header is written, `unpacked`, `packed` and `checksum_of`
-// for the 40 bits as those of a number, and the condition `startup_without_sync`.
+// For the crates above: `Header` with its `checksum_due`, `Fields`, of which a header is written, `unpacked`, `packed`, `checksum_of` and
+// `checksums_of` for the 40 bits as those of a number, and the condition `startup_without_sync`.
 ghost use mathlib.Core.Path.{_≡_};
 ghost use Prim.Native.Nat.{_<_, _^_};
 ghost use Rattle.division.specs.Bits.{bits, bit as Bits·bit};
-ghost use Rattle.header.specs.Layout.{mostWords, mostPayload, longestFrame, wholeHeader, headerChecksumOf, headerIn, noHeader};
+ghost use Rattle.header.specs.Layout.{mostWords, mostPayload, longestFrame, wholeHeader, headerChecksumOf, headerChecksums, headerIn, noHeader};
 ghost use Rattle.header.specs.Refusals.{startupWithoutSync};
 use base_types::Cycle;
 use base_types::Slot;
+use checksum::ChecksumPair;
 
 // What a header says: 01's nine fields, in the order in which they are sent.
 pub struct Header {
@@ -146,4 +147,15 @@ pub fn checksum_of(number: u64) -> u16
     ensures { λ r. ⌜ r ≡ headerChecksumOf (headerIn (bits 40 number)) ⌝ }
 {
     checksum::header_checksum(number >> 17, 20)
+}
+
+// The header checksum found in these 40 bits, and the one that belongs to the others.
+pub fn checksums_of(number: u64) -> ChecksumPair
+    ensures { λ r. ⌜ r ≡ headerChecksums (headerIn (bits 40 number)) ⌝ }
+{
+    let header = unpacked(number);
+    ChecksumPair {
+        found: header.checksum as u32,
+        expected: checksum_of(number) as u32,
+    }
 }

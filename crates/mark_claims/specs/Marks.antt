@@ -123,6 +123,7 @@ underMark mark status =
       «own_sending» = status .«own_sending»;
       reason = status .reason;
       kept = status .kept;
+      checksums = status .checksums;
     }
 
 -- It plays no part: what the statement of measuring allows is the same, in number, deviation and whole state.

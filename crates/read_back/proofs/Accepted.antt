@@ -17,20 +17,22 @@ use Rattle.lent_bytes.specs.Over.{over}
 use Rattle.lent_bytes.proofs.OverLaws.{take-over}
 use Rattle.base_types.specs.declared.channel.Channel.{Channel}
 use Rattle.header.specs.Layout.{longestFrame, headerIn}
+use Rattle.checksum.specs.declared.pair.ChecksumPair.{ChecksumPair}
 use Rattle.frame.specs.Refusals.{headerChecksumDiffers}
-use Rattle.frame.specs.Read.{headerRead, refused, refusalsOn}
+use Rattle.frame.specs.Read.{headerRead, refusedWith, refusalsOn}
 use Rattle.frame.proofs.ReadLaws.{header-of-five}
 use Rattle.wire_reader.specs.declared.phase.Phase.{Phase}
 use Rattle.wire_reader.specs.declared.phase.Phase.the-variants.{ByteStart, End}
-use Rattle.wire_reader.specs.Decoder.{Decoded, moved, failed, headerWrong, complete, behindByte}
+use Rattle.wire_reader.specs.Decoder.{Decoded, moved, failed, headerWrong, checksumsOf, complete, behindByte}
 
 -- Where the reader is before these bytes, behind others.
 abbrev pub phaseBefore : List ℕ → Phase
 phaseBefore [] = End
 phaseBefore (x ∷ l) = ByteStart
 
-abbrev behind : Bool → Bool → ℕ → ℕ → List ℕ → Decoded
-behind wrong whole count since memory = cond wrong (failed (refused 4) memory) (moved (cond whole End ByteStart) count since memory)
+abbrev behind : Bool → Bool → ChecksumPair → ℕ → ℕ → List ℕ → Decoded
+behind wrong whole checksums count since memory =
+    cond wrong (failed (refusedWith 4 checksums) memory) (moved (cond whole End ByteStart) count since memory)
 
 module _ (channel : Channel) (bytes : List ℕ) (none : first (refusalsOn channel bytes) ≡ 0) where
   pub at-least-8 : 8 ≤ length bytes
@@ -90,6 +92,6 @@ module _ (channel : Channel) (bytes : List ℕ) (none : first (refusalsOn channe
   next-phase done rest e since m =
       let n = length done in
       let memory = over done m in
-      ap (λ (l : List ℕ). behind (headerWrong l) (complete l) n since memory) (take-over done m n refl)
-      ∙ ap (λ (b : Bool). behind b (complete done) n since memory) (header-right done rest e)
+      ap (λ (l : List ℕ). behind (headerWrong l) (complete l) (checksumsOf l) n since memory) (take-over done m n refl)
+      ∙ ap (λ (b : Bool). behind b (complete done) (checksumsOf done) n since memory) (header-right done rest e)
       ∙ ap (λ (p : Phase). moved p n since memory) (phase-at done rest e)

@@ -8,10 +8,10 @@ use lib.Dec.{eqb, ltb}
 use lib.ListN.{take, set}
 use Rattle.division.specs.Bits.{bit}
 use Rattle.base_types.specs.declared.channel.Channel.{Channel}
-use Rattle.frame.specs.Read.{ruleOn, refused}
+use Rattle.frame.specs.Read.{ruleOn, refusedWith, refused}
 use Rattle.wire_reader.specs.declared.phase.Phase.{Phase}
 use Rattle.wire_reader.specs.declared.phase.Phase.the-variants.{Waiting, Start, FrameStart, ByteStart, ByteStartLow, Byte, End, EndHigh}
-use Rattle.wire_reader.specs.Decoder.{Place, Decoded, moved, without, entered, failed, headerWrong, complete, behindByte, decoded, isTimed, mostLow, mostHigh, frame}
+use Rattle.wire_reader.specs.Decoder.{Place, Decoded, moved, without, entered, failed, headerWrong, checksumsOf, complete, behindByte, decoded, isTimed, mostLow, mostHigh, frame}
 use Rattle.wire_reader.specs.Reader.{tick}
 use Rattle.read_back.proofs.Course.{plus8, meant, reached}
 
@@ -88,7 +88,7 @@ decoded-kept (Byte n value) b channel idle count since memory =
     let m = set memory count v in
     let l = take (count + 1) m in
     either-kept (ltb n 7) true since (moved (Byte (n + 1) v) count since memory) (behindByte (count + 1) since m) refl
-    (either-kept (headerWrong l) true since (failed (refused 4) m) (moved (cond (complete l) End ByteStart) (count + 1) since m) refl
+    (either-kept (headerWrong l) true since (failed (refusedWith 4 (checksumsOf l)) m) (moved (cond (complete l) End ByteStart) (count + 1) since m) refl
     (byte-kept (complete l) (count + 1) since m))
 decoded-kept End false channel idle count since memory =
     let t = ruleOn channel (take count memory) in

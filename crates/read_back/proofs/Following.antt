@@ -90,7 +90,7 @@ module _ (channel : Channel) (bytes : List ℕ) (none : first (refusalsOn channe
   unfolding follow ended
   end-bits o i since =
       let whole = take-over bytes m (length bytes) refl in
-      ap (ended o i since) (ap (ruleOn channel) whole ∙ ap (λ (n : ℕ). tells n bytes) none)
+      ap (ended o i since) (ap (ruleOn channel) whole ∙ ap (λ (n : ℕ). tells n channel bytes) none)
       ∙ ap (λ (l : List ℕ). record {
         state = without Waiting (over bytes m);
         events =

@@ -18,7 +18,7 @@ use Rattle.bit_clock.specs.Clock.{vote, strobes, after}
 use Rattle.frame.specs.Read as read
 use Rattle.wire_reader.specs.declared.phase.Phase.{Phase}
 use Rattle.wire_reader.specs.declared.phase.Phase.the-variants.{Waiting, Start, FrameStart, ByteStart, ByteStartLow, Byte, End, EndHigh}
-use Rattle.wire_reader.specs.Decoder.{Told, nothing, frame, wrong, Decoded, moved, entered, failed, without, headerWrong, complete, behindByte, judged, decoded, isData, counted}
+use Rattle.wire_reader.specs.Decoder.{Told, nothing, frame, wrong, Decoded, moved, entered, failed, without, headerWrong, checksumsOf, complete, behindByte, judged, decoded, isData, counted}
 use Rattle.wire_reader.specs.Reader.{State, isIdle, kept, strobed, ticked, step, Piece, orElse, piece, stateOf, readerOf}
 use Rattle.wire_reader.specs.Sound.{slackOf}
 use Rattle.wire_reader.specs.Listening as listening
@@ -91,8 +91,8 @@ module _ (channel : Channel) (header : Header) (size since : ℕ) where
       let bytes = take (count + 1) m in
       either (ltb n 7) (moved (Byte (n + 1) v) count k memory) (behindByte (count + 1) k m)
       (λ t. not-given nothing refl)
-      (λ t. either (headerWrong bytes) (failed (read.refused 4) m) (moved (cond (complete bytes) End ByteStart) (count + 1) k m)
-      (λ q. not-given (wrong (read.refused 4)) refl) (λ q. not-given nothing refl))
+      (λ t. either (headerWrong bytes) (failed (read.refusedWith 4 (checksumsOf bytes)) m) (moved (cond (complete bytes) End ByteStart) (count + 1) k m)
+      (λ q. not-given (wrong (read.refusedWith 4 (checksumsOf bytes))) refl) (λ q. not-given nothing refl))
   decoded-given End true idle count k memory room = not-given (wrong (read.refused 34)) refl
   decoded-given End false idle count k memory room = judged-given count k memory room
   decoded-given EndHigh true idle count k memory room = not-given nothing refl

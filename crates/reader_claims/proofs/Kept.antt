@@ -13,7 +13,7 @@ use Rattle.bit_clock.specs.Clock.{vote, strobes, after}
 use Rattle.frame.specs.Read as read
 use Rattle.wire_reader.specs.declared.phase.Phase.{Phase}
 use Rattle.wire_reader.specs.declared.phase.Phase.the-variants.{Waiting, Start, FrameStart, ByteStart, ByteStartLow, Byte, End, EndHigh}
-use Rattle.wire_reader.specs.Decoder.{Told, nothing, frame, wrong, Decoded, moved, entered, failed, without, headerWrong, complete, decoded, isData, counted}
+use Rattle.wire_reader.specs.Decoder.{Told, nothing, frame, wrong, Decoded, moved, entered, failed, without, headerWrong, checksumsOf, complete, decoded, isData, counted}
 use Rattle.wire_reader.specs.Reader.{State, isIdle, kept, strobed, ticked, step, Run, noted, run, Piece, orElse, piece, readerOf}
 use Rattle.wire_reader.specs.Sound.{sound}
 use Rattle.wire_reader.proofs.SoundLaws.{step-sound}
@@ -46,8 +46,8 @@ decoded-size (Byte n value) b channel idle count since memory =
     let m = set memory count v in
     let bytes = take (count + 1) m in
     either (ltb n 7) memory (moved (Byte (n + 1) v) count since memory)
-    (cond (headerWrong bytes) (failed (read.refused 4) m) (moved (cond (complete bytes) End ByteStart) (count + 1) since m)) refl
-    (either (headerWrong bytes) memory (failed (read.refused 4) m) (moved (cond (complete bytes) End ByteStart) (count + 1) since m)
+    (cond (headerWrong bytes) (failed (read.refusedWith 4 (checksumsOf bytes)) m) (moved (cond (complete bytes) End ByteStart) (count + 1) since m)) refl
+    (either (headerWrong bytes) memory (failed (read.refusedWith 4 (checksumsOf bytes)) m) (moved (cond (complete bytes) End ByteStart) (count + 1) since m)
     (length-set memory count v) (length-set memory count v))
 decoded-size End true channel idle count since memory = refl
 decoded-size End false channel idle count since memory =

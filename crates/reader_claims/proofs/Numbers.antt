@@ -26,7 +26,7 @@ use Rattle.wire_reader.specs.declared.phase.Phase.the-variants.{Waiting, Start,
 use Rattle.wire_reader.specs.declared.reader.Reader.{Reader}
 use Rattle.wire_reader.specs.declared.opening.Opened.{Opened}
 use Rattle.wire_reader.specs.declared.listening.Listened.{Listened}
-use Rattle.wire_reader.specs.Decoder.{Told, nothing, frame, wrong, Place, Decoded, moved, entered, failed, without, headerWrong, complete, behindByte, judged, decoded, isData, counted}
+use Rattle.wire_reader.specs.Decoder.{Told, nothing, frame, wrong, Place, Decoded, moved, entered, failed, without, headerWrong, checksumsOf, complete, behindByte, judged, decoded, isData, counted}
 use Rattle.wire_reader.specs.Reader.{State, fresh, isIdle, kept, strobed, ticked, step, Run, noted, run, Piece, orElse, piece, stateOf, readerOf, freshReader, noReader}
 use Rattle.wire_reader.specs.Sound.{slackOf}
 use Rattle.wire_reader.specs.Opening.{openingRefusals, OpenSays}
@@ -95,7 +95,7 @@ behind-good count since value memory room g =
     let m = set memory count value in
     let bytes = take (count + 1) m in
     let one : bytes ≡ take count memory ++ value ∷ [] = ap (λ (n : ℕ). take n m) (add-one count) ∙ take-suc-set memory count value (omega arith) in
-    either (headerWrong bytes) (failed (read.refused 4) m) (moved (cond (complete bytes) End ByteStart) (count + 1) since m)
+    either (headerWrong bytes) (failed (read.refusedWith 4 (checksumsOf bytes)) m) (moved (cond (complete bytes) End ByteStart) (count + 1) since m)
     (λ w. (refl, tt))
     (λ w. (
       refl,

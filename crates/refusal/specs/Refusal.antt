@@ -11,7 +11,7 @@ pub data Line : Type 0 where
   _when_ : ℕ → Bool → Line
 
 -- What comes back beside a number: one thing where nothing is refused, another where something is
--- ("A refusal returns its number only").
+-- ("A refusal returns its number only", and beside three numbers what 01 and 02 add; docs/RULES.md, "Refusal numbers").
 module _ {ℓ} {A : Type ℓ} where
   abbrev pub ifAccepted : ℕ → A → A → A
   ifAccepted zero this other = this

@@ -6,6 +6,7 @@ use crate::line;
 use crate::script;
 use base_types::Cycle;
 use base_types::Slot;
+use checksum::ChecksumPair;
 use frame::Reading;
 use header::Fields;
 use header::Header;
@@ -59,7 +60,8 @@ fn answer_checksum(channel: u8, bytes: &[u8]) -> bool {
     true
 }
 
-// `R`, whose item is a channel: `read 0 RESERVED PREAMBLE NULL SYNC STARTUP ID WORDS CHECKSUM CYCLE PAYLOAD`, or `read N PAYLOAD`
+// `R`, whose item is a channel: `read 0 RESERVED PREAMBLE NULL SYNC STARTUP ID WORDS CHECKSUM CYCLE PAYLOAD FOUND EXPECTED`,
+// or `read N PAYLOAD FOUND EXPECTED`
 fn answer_read(channel: u8, bytes: &[u8]) -> bool {
     let reading = frame::read(channel, bytes);
     let mut line = [0u8; line::ROOM];
@@ -67,6 +69,7 @@ fn answer_read(channel: u8, bytes: &[u8]) -> bool {
     let at = line::decimal(&mut line, at, reading.number() as u64);
     let at = put_header(&mut line, at, reading);
     let at = line::hex(&mut line, at, frame::payload(channel, bytes));
+    let at = put_checksums(&mut line, at, reading.checksums());
     line::end(&mut line, at);
     true
 }
@@ -77,6 +80,12 @@ fn put_header(line: &mut [u8; line::ROOM], at: usize, reading: Reading) -> usize
         return at;
     };
     put_fields(line, at, header)
+}
+
+// Puts the checksum found and the one expected.
+pub fn put_checksums(line: &mut [u8; line::ROOM], at: usize, checksums: ChecksumPair) -> usize {
+    let numbers = [checksums.found as u64, checksums.expected as u64];
+    line::decimals(line, at, &numbers)
 }
 
 // Puts the nine fields.
@@ -114,24 +123,33 @@ fn answer_write(item: Item, payload: &[u8], output: &mut [u8]) -> bool {
     let fields = fields_of(item[FLAGS], item::number(item, ID), item[CYCLE]);
     let writing = writing::write(item[CHANNEL], fields, payload, output);
     let numbers = [writing.number() as u64, writing.length() as u64];
-    line_with_output(b"write", &numbers, output)
+    let mut line = [0u8; line::ROOM];
+    let at = put_with_output(&mut line, b"write", &numbers, output);
+    line::end(&mut line, at);
+    true
 }
 
-// `E`, whose item is channel and start length: `encode N BITS OUTPUT`
+// `E`, whose item is channel and start length: `encode N BITS OUTPUT FOUND EXPECTED`
 fn answer_encode(item: Item, bytes: &[u8], output: &mut [u8]) -> bool {
     let encoding = wire::encode(item[CHANNEL], bytes, item[START], output);
     let numbers = [encoding.number() as u64, encoding.bits() as u64];
-    line_with_output(b"encode", &numbers, output)
-}
-
-// A word, two numbers, and the whole output.
-fn line_with_output(word: &[u8], numbers: &[u64], output: &[u8]) -> bool {
     let mut line = [0u8; line::ROOM];
-    let at = line::put(&mut line, 0, word);
-    let at = line::decimals(&mut line, at, numbers);
-    let at = line::hex(&mut line, at, output);
+    let at = put_with_output(&mut line, b"encode", &numbers, output);
+    let at = put_checksums(&mut line, at, encoding.checksums());
     line::end(&mut line, at);
     true
+}
+
+// Puts a word, two numbers, and the whole output.
+fn put_with_output(
+    line: &mut [u8; line::ROOM],
+    word: &[u8],
+    numbers: &[u64],
+    output: &[u8],
+) -> usize {
+    let at = line::put(line, 0, word);
+    let at = line::decimals(line, at, numbers);
+    line::hex(line, at, output)
 }
 
 // The fields to write. A flag is a bit, the first the lowest; the bits above the five are not looked at.

@@ -7,6 +7,7 @@ use crate::held::Held;
 use crate::held::MEMORY;
 use crate::line;
 use crate::script;
+use checksum::ChecksumPair;
 use wire_reader::Event;
 use wire_reader::Heard;
 use wire_reader::Listening;
@@ -136,36 +137,43 @@ fn behind(at: usize, taken: usize, end: usize) -> usize {
     at + taken
 }
 
-// `heard N TAKEN`, and with a frame what is told of it. Answers whether something was told.
+// `heard N TAKEN FOUND EXPECTED`, and with a frame what is told of it. Answers whether something was told.
 fn write_answer(answer: Listening, taken: usize, memory: &[u8]) -> bool {
-    let Listening::Heard(event) = answer else {
-        write_heard(answer.number(), taken);
+    let event = answer.event();
+    let checksums = event.checksums();
+    if answer.number() != 0 {
+        write_heard(answer.number(), taken, checksums);
         return false;
-    };
+    }
     match event {
         Event::Nothing => {
-            write_heard(0, taken);
+            write_heard(0, taken, checksums);
             false
         }
         Event::Frame(heard) => {
-            write_frame(heard, taken, memory);
+            write_frame(heard, taken, memory, checksums);
             true
         }
         _ => {
-            write_heard(event.number(), taken);
+            write_heard(event.number(), taken, checksums);
             true
         }
     }
 }
 
-// `heard N TAKEN`
-fn write_heard(number: u8, taken: usize) {
-    let numbers = [number as u64, taken as u64];
+// `heard N TAKEN FOUND EXPECTED`
+fn write_heard(number: u8, taken: usize, checksums: ChecksumPair) {
+    let numbers = [
+        number as u64,
+        taken as u64,
+        checksums.found as u64,
+        checksums.expected as u64,
+    ];
     line::write(b"heard", &numbers);
 }
 
-// `heard 0 TAKEN SINCE RESERVED PREAMBLE NULL SYNC STARTUP ID WORDS CHECKSUM CYCLE BYTES`
-fn write_frame(heard: Heard, taken: usize, memory: &[u8]) {
+// `heard 0 TAKEN SINCE RESERVED PREAMBLE NULL SYNC STARTUP ID WORDS CHECKSUM CYCLE BYTES FOUND EXPECTED`
+fn write_frame(heard: Heard, taken: usize, memory: &[u8], checksums: ChecksumPair) {
     let header = heard.header;
     let numbers = [0, taken as u64, heard.since as u64];
     let mut line = [0u8; line::ROOM];
@@ -173,6 +181,7 @@ fn write_frame(heard: Heard, taken: usize, memory: &[u8]) {
     let at = line::decimals(&mut line, at, &numbers);
     let at = frames::put_fields(&mut line, at, header);
     let at = line::hex(&mut line, at, front(memory, heard.size));
+    let at = frames::put_checksums(&mut line, at, checksums);
     line::end(&mut line, at);
 }
 

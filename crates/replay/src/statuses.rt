@@ -8,6 +8,7 @@ use base_types::Channel;
 use base_types::Cycle;
 use base_types::Named;
 use base_types::Slot;
+use checksum::ChecksumPair;
 use header::Header;
 use slot::Kept;
 use slot::Miss;
@@ -40,8 +41,12 @@ const KEPT_CYCLE: usize = CHECKSUM + 2;
 // The sheet's mark, and not the status's own, which are flags.
 const MARK: usize = KEPT_CYCLE + 1;
 
+const FOUND: usize = MARK + sheet::MARK_SIZE;
+
+const EXPECTED: usize = FOUND + 4;
+
 // How many bytes a status has.
-pub const SIZE: usize = MARK + sheet::MARK_SIZE;
+pub const SIZE: usize = EXPECTED + 4;
 
 pub fn is_right(item: Item) -> bool {
     sheet::is_right(item)
@@ -50,8 +55,8 @@ pub fn is_right(item: Item) -> bool {
         && item::is_switch(item[KEPT])
 }
 
-// `T`: settings, channel switch, slot, cycle, marks, reason, kept switch, the kept frame's flags, ID, words, checksum and cycle, and the
-// sheet's mark.
+// `T`: settings, channel switch, slot, cycle, marks, reason, kept switch, the kept frame's flags, ID, words, checksum and cycle, the
+// sheet's mark, and the two checksums.
 pub fn put(item: Item) -> Status {
     line::write_words(b"status put");
     let marks = item[MARKS];
@@ -68,6 +73,10 @@ pub fn put(item: Item) -> Status {
         own_sending: marks / 32 % 2 == 1,
         reason: reason_of(item[REASON]),
         kept: kept_of(item),
+        checksums: ChecksumPair {
+            found: item::long(item, FOUND),
+            expected: item::long(item, EXPECTED),
+        },
     }
 }
 
@@ -112,7 +121,7 @@ fn kept_of(item: Item) -> Kept {
     })
 }
 
-// `status F1 .. F11 SENDS CHANNEL SLOT CYCLE MARKS REASON KEPT FLAGS ID WORDS CHECKSUM CYCLE MARK`
+// `status F1 .. F11 SENDS CHANNEL SLOT CYCLE MARKS REASON KEPT FLAGS ID WORDS CHECKSUM CYCLE MARK FOUND EXPECTED`
 pub fn show(status: Status) {
     let channel = status.channel;
     let reason = status.reason;
@@ -130,6 +139,7 @@ pub fn show(status: Status) {
     let at = line::decimals(&mut line, at, &numbers);
     let at = put_kept(&mut line, at, kept);
     let at = sheet::put_mark(&mut line, at, status.settings);
+    let at = frames::put_checksums(&mut line, at, status.checksums);
     line::end(&mut line, at);
 }
 

@@ -3,6 +3,7 @@ use mathlib.Core.Path.{_≡_, refl, sym, ap}
 use mathlib.Core.Bool.{Bool, true, false, false≢true, not, _&&_}
 use borrow.Author.Tests.{not-true}
 use Rattle.numbers.proofs.Truth.{both-true, true-both}
+use Rattle.checksum.specs.Pair.{isNone}
 use Rattle.slot.specs.declared.status.Status.{Status}
 use Rattle.slot.specs.Judging.{placeOf, isReason, isSecondGoodFrame, isFrame, hasArrival}
 use Rattle.slot.specs.Sound.{wouldOpen, keepsWell, exactlyWith, onlyWith, sound}
@@ -23,13 +24,14 @@ then-only : (a b : Bool) → (a ≡ true → b ≡ true) → onlyWith a b ≡ tr
 then-only true b f = f refl
 then-only false b f = refl
 
--- the six clauses, one by one
+-- the clauses, one by one
 pub record Clauses (s : Status) : Type 0 where
   pub opens : wouldOpen (placeOf s) ≡ true
   pub content : s .«content_error» ≡ isReason (s .reason)
   pub valid : s .valid ≡ isFrame (s .kept)
   pub keeps : keepsWell (placeOf s) (s .kept) ≡ true
   pub second : isSecondGoodFrame (s .reason) ≡ true → s .valid ≡ true
+  pub checksums : not (isNone (s .checksums)) ≡ true → s .«syntax_error» ≡ true
   pub conflict : s .conflict ≡ s .«own_sending» && hasArrival s
 
 pub clauses : (s : Status) → sound s ≡ true → Clauses s
@@ -39,13 +41,15 @@ clauses s e =
     let p3 = both-true (exactlyWith (s .valid) (isFrame (s .kept))) _ (p2 .1) in
     let p4 = both-true (keepsWell (placeOf s) (s .kept)) _ (p3 .1) in
     let p5 = both-true (onlyWith (isSecondGoodFrame (s .reason)) (s .valid)) _ (p4 .1) in
+    let p6 = both-true (onlyWith (not (isNone (s .checksums))) (s .«syntax_error»)) _ (p5 .1) in
     record {
       opens = p1 .0;
       content = exactly-same (s .«content_error») (isReason (s .reason)) (p2 .0);
       valid = exactly-same (s .valid) (isFrame (s .kept)) (p3 .0);
       keeps = p4 .0;
       second = only-then (isSecondGoodFrame (s .reason)) (s .valid) (p5 .0);
-      conflict = exactly-same (s .conflict) (s .«own_sending» && hasArrival s) (p5 .1);
+      checksums = only-then (not (isNone (s .checksums))) (s .«syntax_error») (p6 .0);
+      conflict = exactly-same (s .conflict) (s .«own_sending» && hasArrival s) (p6 .1);
     }
 
 pub clauses-sound : (s : Status) → Clauses s → sound s ≡ true
@@ -55,4 +59,6 @@ clauses-sound s c =
     (true-both (exactlyWith (s .valid) (isFrame (s .kept))) _ (same-exactly (s .valid) (isFrame (s .kept)) (c .valid))
     (true-both (keepsWell (placeOf s) (s .kept)) _ (c .keeps)
     (true-both (onlyWith (isSecondGoodFrame (s .reason)) (s .valid)) _ (then-only (isSecondGoodFrame (s .reason)) (s .valid) (c .second))
-    (same-exactly (s .conflict) (s .«own_sending» && hasArrival s) (c .conflict))))))
+    (true-both (onlyWith (not (isNone (s .checksums))) (s .«syntax_error»)) _
+    (then-only (not (isNone (s .checksums))) (s .«syntax_error») (c .checksums))
+    (same-exactly (s .conflict) (s .«own_sending» && hasArrival s) (c .conflict)))))))

@@ -7,6 +7,7 @@ use Rattle.base_types.specs.declared.channel.Channel.the-variants.{A}
 use Rattle.base_types.specs.Channel.{channelOf}
 use Rattle.base_types.specs.declared.id.Slot.{Slot}
 use Rattle.base_types.specs.declared.cycle.Cycle.{Cycle}
+use Rattle.checksum.specs.Pair.{noChecksums}
 use Rattle.header.specs.declared.Header.{Header}
 use Rattle.header.specs.Layout.{noHeader}
 use Rattle.settings.specs.declared.Settings.{Settings}
@@ -56,6 +57,7 @@ fresh p =
       «own_sending» = false;
       reason = reason.NoReason;
       kept = Nothing;
+      checksums = noChecksums;
     }
 
 -- "all zeros with clear flags": what comes back beside a refused opening.

@@ -3,6 +3,7 @@ use mathlib.Core.Bool.{Bool, true, false, not, _&&_}
 use lib.Dec.{eqb, leb}
 use Rattle.refusal.specs.Refusal.{first}
 use Rattle.base_types.specs.Channel.{numberOf}
+use Rattle.checksum.specs.Pair.{isNone}
 use Rattle.header.specs.declared.Header.{Header}
 use Rattle.header.specs.Layout.{mostWords, headerChecksumOf}
 use Rattle.base_types.specs.Slot.{notAnId}
@@ -40,11 +41,14 @@ abbrev pub onlyWith : Bool → Bool → Bool
 onlyWith true b = b
 onlyWith false b = true
 
--- "A slot status is sound if": the clauses of 01, in their order, and before the last that of 02 (C-15), "(f) only with "valid"".
+-- "A slot status is sound if": the clauses of 01, in their order, and before the last those of 02: "(f) only with "valid"" (C-15), and "0, 0
+-- without one, else unsound" of the checksums that the first syntax error told (C-18).
 abbrev pub sound : Status → Bool
 sound s =
     wouldOpen (placeOf s)
     && (exactlyWith (s .«content_error») (isReason (s .reason))
     && (exactlyWith (s .valid) (isFrame (s .kept))
     && (keepsWell (placeOf s) (s .kept)
-    && (onlyWith (isSecondGoodFrame (s .reason)) (s .valid) && exactlyWith (s .conflict) (s .«own_sending» && hasArrival s)))))
+    && (onlyWith (isSecondGoodFrame (s .reason)) (s .valid)
+    && (onlyWith (not (isNone (s .checksums))) (s .«syntax_error»)
+    && exactlyWith (s .conflict) (s .«own_sending» && hasArrival s))))))

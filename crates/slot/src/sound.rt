@@ -7,13 +7,14 @@ use crate::status::Kept;
 use crate::status::Status;
 use header::Header;
 
-// Soundness as 01 writes it, clause by clause, with that of 02 (C-15) on reason (f). It is no stricter: refusal 23 is given exactly where a
-// status is not sound.
+// Soundness as 01 writes it, clause by clause, with those of 02: on reason (f) (C-15) and on the two checksums (C-18). It is no stricter: refusal
+// 23 is given exactly where a status is not sound.
 pub fn is_sound(status: Status) -> bool
     ensures { λ r. ⌜ r ≡ sound status ⌝ }
 {
     let reason = status.reason;
     let kept = status.kept;
+    let checksums = status.checksums;
     if !would_open(status) {
         return false;
     }
@@ -28,6 +29,10 @@ pub fn is_sound(status: Status) -> bool
     }
     let is_second = reason.is_second_good_frame();
     if is_second & !status.valid {
+        return false;
+    }
+    let tells_none = checksums.is_none();
+    if !tells_none & !status.syntax_error {
         return false;
     }
     let is_conflict = status.own_sending & status.has_arrival();

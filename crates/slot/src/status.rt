@@ -4,6 +4,7 @@ ghost use Rattle.slot.specs.Judging.{fresh as Judging·fresh, noStatus, 
 use base_types::Channel;
 use base_types::Cycle;
 use base_types::Slot;
+use checksum::ChecksumPair;
 use header::Header;
 use settings::Settings;
 
@@ -56,6 +57,8 @@ pub struct Status {
     pub own_sending: bool,
     pub reason: Reason,
     pub kept: Kept,
+    // Found and worked out, as the first syntax error told them; 0 for both where none did (02, C-18).
+    pub checksums: ChecksumPair,
 }
 
 impl Tested {
@@ -164,6 +167,7 @@ impl Status {
             own_sending: false,
             reason: Reason::NoReason,
             kept: Kept::Nothing,
+            checksums: ChecksumPair::NONE,
         }
     }
 

@@ -7,6 +7,7 @@ use mathlib.Core.Logic.{_⊎_, inl, inr, _↔_}
 use borrow.Author.Tests.{eqb-true, not-false}
 use Rattle.numbers.proofs.Walk.{cases, cases-in, came}
 use Rattle.refusal.specs.Refusal.{first}
+use Rattle.checksum.specs.declared.pair.ChecksumPair.{ChecksumPair}
 use Rattle.header.specs.declared.Header.{Header}
 use Rattle.frame.specs.declared.Reading.the-variants.{Accepted}
 use Rattle.frame.specs.Read as read
@@ -17,9 +18,9 @@ use Rattle.slot.specs.declared.status.Tested.the-variants as tested
 use Rattle.slot.specs.declared.status.Reason.the-variants as reason
 use Rattle.slot.specs.declared.status.Kept.the-variants as kept
 use Rattle.slot.specs.Judging.{Place, firstMiss, reasonBy, isReason, isFrame}
-use Rattle.slot_events.specs.Effect.{Event, Brought, arrival, boundaryActivity, ownSending, keptBy, isRefused, ofArrival, brings}
+use Rattle.slot_events.specs.Effect.{Event, Brought, arrival, boundaryActivity, ownSending, keptBy, isRefused, ofRefused, ofAccepted, brings}
 use Rattle.slot_events.proofs.EventLaws.{brings-refused, brings-frame}
-use Rattle.slot_claims.specs.Histories.{Arrives, ArrivesRefused, ArrivesMissing, ArrivesPassing}
+use Rattle.slot_claims.specs.Histories.{Arrives, ArrivesRefused, ArrivesTelling, ArrivesMissing, ArrivesPassing}
 use Rattle.slot_claims.proofs.ReasonLaws.{missed-first, kept-frame}
 use Rattle.slot_claims.proofs.Content.{tests-exactly}
 
@@ -32,7 +33,7 @@ EitherWay p bytes = (isRefused (p .channel) bytes ≡ true) ⊎ ((h : Header) ×
 module _ (p : Place) (bytes : List ℕ) where
   -- the answer of reading where nothing is refused
   accepts : isRefused (p .channel) bytes ≡ false → ReadOnSays (p .channel) bytes (Accepted (headerRead bytes))
-  accepts e = sym (ap (λ (n : ℕ). read.tells n bytes) (eqb-true (first (refusalsOn (p .channel) bytes)) 0 (not-false _ e)))
+  accepts e = sym (ap (λ (n : ℕ). read.tells n (p .channel) bytes) (eqb-true (first (refusalsOn (p .channel) bytes)) 0 (not-false _ e)))
 
   either-way : EitherWay p bytes
   either-way = cases (isRefused (p .channel) bytes) inl (λ t. inr (headerRead bytes, accepts t))
@@ -46,7 +47,8 @@ OnlyArrival b = (b .arrived ≡ true) × (b .atBoundary ≡ false) × (b .sent �
 only-arrival : (p : Place) (bytes : List ℕ) → OnlyArrival (brings p (arrival bytes))
 only-arrival p bytes =
     let given = firstMiss p (headerRead bytes) in
-    cases-in (λ b. OnlyArrival (cond b (ofArrival true reason.NoReason kept.Nothing) (ofArrival false (reasonBy given) (keptBy given (headerRead bytes)))))
+    cases-in
+    (λ b. OnlyArrival (cond b (ofRefused (read.ruleOn (p .channel) bytes .checksums)) (ofAccepted (reasonBy given) (keptBy given (headerRead bytes)))))
     (isRefused (p .channel) bytes) (λ t. (refl, refl, refl)) (λ t. (refl, refl, refl))
 
 pub arrives-exactly : (p : Place) (e : Event) → (brings p e .arrived ≡ true) ↔ Arrives e
@@ -69,6 +71,27 @@ refused-exactly p e = (there e, back)
     back f =
         ap (λ (x : Event). brings p x .refused) (f .1)
         ∙ came (either-way p (f .0)) (λ out. ap (λ (b : Brought). b .refused) (brings-refused p (f .0) out)) (λ a. absurd (f .2 (a .0) (a .1)))
+
+-- of a refused arrival it brings the two checksums that reading tells, and of no other event any
+pub checksums-exactly : (p : Place) (told : ChecksumPair) (e : Event)
+    → ((brings p e .refused ≡ true) × (brings p e .checksums ≡ told)) ↔ (ArrivesRefused p e × ArrivesTelling p told e)
+checksums-exactly p told e = (there e, back)
+  where
+    brought : (bytes : List ℕ) → brings p (arrival bytes) .refused ≡ true → brings p (arrival bytes) .checksums ≡ read.ruleOn (p .channel) bytes .checksums
+    brought bytes t =
+        came (either-way p bytes) (λ out. ap (λ (b : Brought). b .checksums) (brings-refused p bytes out))
+        (λ a. absurd (false≢true (sym (ap (λ (b : Brought). b .refused) (brings-frame p bytes (a .0) (a .1))) ∙ t)))
+
+    there : (e : Event) → (brings p e .refused ≡ true) × (brings p e .checksums ≡ told) → ArrivesRefused p e × ArrivesTelling p told e
+    there boundaryActivity t = absurd (false≢true (t .0))
+    there ownSending t = absurd (false≢true (t .0))
+    there (arrival bytes) t = (refused-exactly p (arrival bytes) .0 (t .0), (bytes, refl, sym (brought bytes (t .0)) ∙ t .1))
+
+    back : ArrivesRefused p e × ArrivesTelling p told e → (brings p e .refused ≡ true) × (brings p e .checksums ≡ told)
+    back f =
+        let t = refused-exactly p e .1 (f .0) in
+        let a = f .1 in
+        (t, ap (λ (x : Event). brings p x .checksums) (a .1) ∙ brought (a .0) (sym (ap (λ (x : Event). brings p x .refused) (a .1)) ∙ t) ∙ a .2)
 
 pub misses-exactly : (p : Place) (miss : Miss) (e : Event) → (brings p e .reason ≡ reason.Missed miss) ↔ ArrivesMissing p miss e
 misses-exactly p miss e = (there e, back)

@@ -1,10 +1,11 @@
 -- The claims about sequences of events.
 use mathlib.Core.Path.{_≡_, refl, sym, ap, _∙_, subst}
-use mathlib.Core.Bool.{Bool, true, false, false≢true, not, _&&_, cond}
+use mathlib.Core.Bool.{Bool, true, false, false≢true, not, _&&_, _||_, cond}
 use mathlib.Core.List.{List, [], _∷_}
 use mathlib.Core.Logic.{inl, inr, _↔_, Iff·symm, Iff·trans}
 use Rattle.refusal.specs.Refusal.{first}
 use Rattle.refusal.proofs.FirstLaws.{first-skip, first-end, if-accepted}
+use Rattle.checksum.specs.declared.pair.ChecksumPair.{ChecksumPair}
 use Rattle.slot.specs.declared.status.Miss.{Miss}
 use Rattle.slot.specs.declared.status.Reason.{Reason}
 use Rattle.slot.specs.declared.status.Reason.the-variants as reason
@@ -16,13 +17,14 @@ use Rattle.slot.specs.Opening.{openingRefusals, Told}
 use Rattle.slot.specs.Sound.{sound}
 use Rattle.slot_events.specs.Effect.{Event, Brought, boundaryActivity, ownSending, brings, reasonIn, after}
 use Rattle.slot_events.specs.Events.{eventRefusals}
-use Rattle.slot_claims.specs.Histories.{Arrives, ArrivesRefused, ArrivesMissing, ArrivesPassing, PassesAll, AnyTime, Some, FirstIs, Occurs, PassesAgain, GivesReason, History, HistoryOne, Calls, NoneRefused, Histories}
+use Rattle.slot_claims.specs.Histories.{Arrives, ArrivesRefused, ArrivesTelling, ArrivesMissing, ArrivesPassing, PassesAll, AnyTime, Some, FirstIs, Occurs, PassesAgain, GivesReason, History, HistoryOne, Calls, NoneRefused, Histories}
 use Rattle.numbers.proofs.Truth.{both-true, true-both, same-true}
 use Rattle.numbers.proofs.Walk.{cases, came}
 use Rattle.slot_claims.proofs.ReasonLaws.{no-reason, which-reason, frame-there, no-frame}
 use Rattle.slot.proofs.SoundLaws.{Clauses, clauses}
+use Rattle.slot_claims.proofs.Sound.{none-told}
 use Rattle.slot_claims.proofs.SoundCalls.{fits, has-after, second-given, after-sound, fresh-sound}
-use Rattle.slot_claims.proofs.Brings.{arrives-exactly, refused-exactly, misses-exactly, passes-exactly, boundary-exactly, sending-exactly}
+use Rattle.slot_claims.proofs.Brings.{arrives-exactly, refused-exactly, checksums-exactly, misses-exactly, passes-exactly, boundary-exactly, sending-exactly}
 use Rattle.slot_claims.proofs.AfterAll.{afterAll, all-place, all-sound, end, flag-exactly, first-exactly}
 
 -- ---- what is exactly so
@@ -88,6 +90,59 @@ module _ (p : Place) (before : List Event) (e : Event) where
     λ g. came g (λ m. ap isReason (missed-exactly (m .0) .1 (m .1))) (λ again. ap isReason (second-exactly .1 again)),
   )
 
+-- ---- the two checksums
+
+-- "syntax error" with them: what is kept of the first arrival that is refused
+abbrev Syntax : Type 0
+Syntax = Bool × ChecksumPair
+
+abbrev with-flag : Bool → ChecksumPair → Syntax
+with-flag flag checksums = (flag, checksums)
+
+abbrev syntaxOf : Status → Syntax
+syntaxOf s = with-flag (s .«syntax_error») (s .checksums)
+
+abbrev given-syntax : Status → Brought → Syntax
+given-syntax s b = with-flag (b .refused) (cond (b .refused) (b .checksums) (s .checksums))
+
+syntax-once : (s : Status) (e : Event)
+    → syntaxOf (after s e) ≡ cond (s .«syntax_error») (syntaxOf s) (given-syntax s (brings (placeOf s) e))
+syntax-once s e = by (brings (placeOf s) e .refused) (s .«syntax_error»)
+  where
+    b : Brought
+    b = brings (placeOf s) e
+
+    by : (refused syntax : Bool)
+        → with-flag (refused || syntax) (cond (refused && not syntax) (b .checksums) (s .checksums))
+        ≡ cond syntax (with-flag syntax (s .checksums)) (with-flag refused (cond refused (b .checksums) (s .checksums)))
+    by true true = refl
+    by true false = refl
+    by false true = refl
+    by false false = refl
+
+module _ (p : Place) (told : ChecksumPair) where
+  given-exactly : (before : List Event) (e : Event)
+      → (given-syntax (end p before) (brings p e) ≡ with-flag true told) ↔ (ArrivesRefused p e × ArrivesTelling p told e)
+  given-exactly before e = (
+    λ t.
+        let refused : brings p e .refused ≡ true = ap (λ (x : Syntax). x .0) t in
+        let pair = sym (ap (λ (r : Bool). cond r (brings p e .checksums) (end p before .checksums)) refused) ∙ ap (λ (x : Syntax). x .1) t in
+        checksums-exactly p told e .0 (refused, pair),
+    λ a.
+        let both = checksums-exactly p told e .1 a in
+        λ i. (both .0 i, (ap (λ (r : Bool). cond r (brings p e .checksums) (end p before .checksums)) (both .0) ∙ both .1) i),
+  )
+
+  -- of the first arrival that is refused, and so of one that is
+  first-telling : (events : List Event)
+      → (syntaxOf (end p events) ≡ with-flag true told) ↔ FirstIs (AnyTime (ArrivesRefused p)) (AnyTime (ArrivesTelling p told)) events
+  first-telling events =
+      let all = first-exactly (λ (x : Syntax). x .0) syntaxOf given-syntax syntax-once (AnyTime (ArrivesRefused p)) p events refl
+      (λ before. refused-exactly p) (with-flag true told) refl (AnyTime (λ e. ArrivesRefused p e × ArrivesTelling p told e)) given-exactly in (
+        λ t. let r = all .0 t in (r .0, r .1, r .2, r .3 .1),
+        λ r. all .1 (r .0, r .1, r .2, (r .2 .holds, r .3)),
+      )
+
 module _ (p : Place) (good : sound (fresh p) ≡ true) (events : List Event) where
   -- the reason that is kept, by what gives it
   reason-exactly : (r : Reason) → isReason r ≡ true → (Q : List Event → Event → Type 0)
@@ -95,6 +150,11 @@ module _ (p : Place) (good : sound (fresh p) ≡ true) (events : List Event) whe
       → (end p events .reason ≡ r) ↔ FirstIs (GivesReason p) Q events
   reason-exactly r there Q meant =
       first-exactly isReason (λ s. s .reason) reasonIn (λ s e. refl) (GivesReason p) p events refl (gives-exactly p) r there Q meant
+
+  syntax-exactly : (end p events .«syntax_error» ≡ true) ↔ Some (AnyTime (ArrivesRefused p)) events
+  syntax-exactly =
+      flag-exactly (λ s. s .«syntax_error») (λ s b. b .refused) (λ s e. refl) (AnyTime (ArrivesRefused p)) p events refl
+      (λ before. refused-exactly p)
 
   sent-exactly : (end p events .«own_sending» ≡ true) ↔ Occurs ownSending events
   sent-exactly =
@@ -109,9 +169,18 @@ module _ (p : Place) (good : sound (fresh p) ≡ true) (events : List Event) whe
   history =
       record {
         place = all-place (fresh p) events;
-        syntax =
-            flag-exactly (λ s. s .«syntax_error») (λ s b. b .refused) (λ s e. refl) (AnyTime (ArrivesRefused p)) p events refl
-            (λ before. refused-exactly p);
+        syntax = syntax-exactly;
+        checksums =
+            λ told. (
+              λ t. first-telling p told events .0 (λ i. (t .0 i, t .1 i)),
+              λ r.
+                  let k = first-telling p told events .1 r in
+                  (ap (λ (x : Syntax). x .0) k, ap (λ (x : Syntax). x .1) k),
+            );
+        none =
+            λ nothing.
+            none-told (end p events .checksums)
+            (λ t. nothing (syntax-exactly .0 (c .checksums t)));
         content =
             flag-exactly (λ s. s .«content_error») (λ s b. isReason (reasonIn s b)) (λ s e. refl) (GivesReason p) p events refl (gives-exactly p);
         reason = λ miss. reason-exactly (reason.Missed miss) refl (AnyTime (ArrivesMissing p miss)) (λ before e. missed-exactly p before e miss);
@@ -168,6 +237,14 @@ module _ (p : Place) (events : List Event) (s t : Status) (hs : History p events
       let f = frame-there k is in
       subst (λ (x : Kept). (s .kept ≡ x) ↔ (t .kept ≡ x)) (sym (f .1)) (Iff·trans (hs .kept (f .0)) (Iff·symm (ht .kept (f .0)))))
 
+  same-checksums : s .checksums ≡ t .checksums
+  same-checksums =
+      cases (s .«syntax_error»)
+      (λ stands. sym (ht .checksums (s .checksums) .1 (hs .checksums (s .checksums) .0 (stands, refl)) .1))
+      (λ clear.
+      let none : Some (AnyTime (ArrivesRefused p)) events → ⊥ = λ some. false≢true (sym clear ∙ hs .syntax .1 some) in
+      hs .none none ∙ sym (ht .none none))
+
   same-status : s ≡ t
   same-status =
       let place : placeOf s ≡ placeOf t = hs .place ∙ sym (ht .place) in
@@ -191,6 +268,7 @@ module _ (p : Place) (events : List Event) (s t : Status) (hs : History p events
         «own_sending» = sending i;
         reason = same-reason i;
         kept = same-kept i;
+        checksums = same-checksums i;
       }
 
 pub history-one : HistoryOne

@@ -12,6 +12,7 @@ use Rattle.refusal.proofs.FirstLaws.{not-refused}
 use Rattle.division.specs.Bits.{bytesOf}
 use Rattle.division.proofs.BytesLaws.{length-bytes-of, are-bytes-of}
 use Rattle.base_types.specs.declared.channel.Channel.{Channel}
+use Rattle.checksum.specs.Pair.{noChecksums}
 use Rattle.header.specs.declared.Header.{Header}
 use Rattle.header.specs.Layout.{mostWords, headerChecksumOf}
 use Rattle.header.specs.Refusals.{startupWithoutSync}
@@ -77,8 +78,8 @@ module _ (channel : Channel) (h : Header) (could : couldBeRead h ≡ true) where
       let bytes = frameBytes channel (fieldsOf h) payload in (
         bytes,
         framed .areBytes,
-        ap (λ (x : Header). record { number = 0; header = x }) (sym (frame-header framed))
-            ∙ ap (λ (n : ℕ). read.tells n bytes) (sym (frame-accepted framed)),
+        ap (λ (x : Header). record { number = 0; header = x; checksums = noChecksums }) (sym (frame-header framed))
+            ∙ ap (λ (n : ℕ). read.tells n channel bytes) (sym (frame-accepted framed)),
       )
 
 pub could-be-read-exactly : CouldBeReadExactly

@@ -1,12 +1,15 @@
 -- Soundness, clause by clause, and 01's sentence.
 use Prim.Native.Nat.{ℕ}
 use mathlib.Core.Path.{_≡_, refl, sym, ap, _∙_}
-use mathlib.Core.Bool.{true, _&&_, _||_}
+use mathlib.Core.Bool.{true, false≢true, not, _&&_, _||_}
+use lib.Dec.{eqb}
 use mathlib.Core.Logic.{_⊎_, inl, inr}
 use borrow.Author.Tests.{eqb-true, eq-eqb, not-false}
 use Rattle.refusal.specs.Refusal.{first}
 use Rattle.refusal.proofs.FirstLaws.{first-zero}
 use Rattle.base_types.specs.Channel.{numberOf}
+use Rattle.checksum.specs.declared.pair.ChecksumPair.{ChecksumPair}
+use Rattle.checksum.specs.Pair.{noChecksums, isNone}
 use Rattle.header.specs.declared.Header.{Header}
 use Rattle.settings.specs.Sheet.{firstOutOfRange, outOfRange}
 use Rattle.slot.specs.declared.status.Tested.the-variants as tested
@@ -25,7 +28,7 @@ use Rattle.slot_claims.specs.Content.{Passes}
 use Rattle.slot_claims.proofs.ReasonLaws.{reason-there, there-reason, second-there, frame-there, all-passed}
 use Rattle.slot_claims.proofs.Content.{tests-exactly}
 use Rattle.numbers.proofs.Truth.{same-true, both-true, true-both, either-true, true-left, true-right}
-use Rattle.numbers.proofs.Walk.{came}
+use Rattle.numbers.proofs.Walk.{cases, came}
 use Rattle.slot_claims.proofs.Readable.{could-be-read-exactly}
 
 -- ---- the rule is 01's sentence
@@ -50,6 +53,17 @@ one-of-three s (inl e) = true-left (s .«syntax_error») (s .«content_error» |
 one-of-three s (inr (inl e)) = true-right (s .«syntax_error») (s .«content_error» || s .valid) (true-left (s .«content_error») (s .valid) e)
 one-of-three s (inr (inr e)) = true-right (s .«syntax_error») (s .«content_error» || s .valid) (true-right (s .«content_error») (s .valid) e)
 
+-- a pair that is none is 0 for both
+pub none-told : (x : ChecksumPair) → (not (isNone x) ≡ true → ⊥) → x ≡ noChecksums
+none-told x h =
+    cases (isNone x)
+    (λ t.
+    let both = both-true (eqb (x .found) 0) (eqb (x .expected) 0) t in
+    let found = eqb-true (x .found) 0 (both .0) in
+    let expected = eqb-true (x .expected) 0 (both .1) in
+    λ i. record { found = found i; expected = expected i })
+    (λ t. absurd (h (ap not t)))
+
 module _ (s : Status) (c : Clauses s) where
   kept-read : (h : Header) → s .kept ≡ kept.Frame h → Readable (s .channel) h × Passes (placeOf s) h
   kept-read h e =
@@ -66,6 +80,7 @@ module _ (s : Status) (c : Clauses s) where
         valid = (λ t. frame-there (s .kept) (sym (c .valid) ∙ t), λ f. c .valid ∙ ap isFrame (f .1));
         kept = kept-read;
         second = λ e. c .second (ap isSecondGoodFrame e);
+        checksums = λ clear. none-told (s .checksums) (λ t. false≢true (sym clear ∙ c .checksums t));
         conflict = (
           λ t.
               let p = both-true (s .«own_sending») (hasArrival s) (sym (c .conflict) ∙ t) in
@@ -96,6 +111,7 @@ module _ (s : Status) (w : SoundStatus s) where
             (λ t. ap isFrame (w .valid .0 t .1), λ t. w .valid .1 (frame-there (s .kept) t));
         keeps = keeps-well (s .kept) refl;
         second = λ t. w .second (second-there (s .reason) t);
+        checksums = λ t. cases (s .«syntax_error») (λ e. e) (λ e. absurd (false≢true (sym (ap (λ (x : ChecksumPair). not (isNone x)) (w .checksums e)) ∙ t)));
         conflict =
             same-true (s .conflict) (s .«own_sending» && hasArrival s) (
               λ t. true-both (s .«own_sending») (hasArrival s) (w .conflict .0 t .0) (one-of-three s (w .conflict .0 t .1)),

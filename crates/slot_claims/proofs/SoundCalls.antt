@@ -8,8 +8,9 @@ use Rattle.refusal.proofs.FirstLaws.{first-skip, first-end, first-zero, if-acce
 use Rattle.base_types.specs.Channel.{channelOf, numberOf}
 use Rattle.base_types.specs.declared.id.Slot.{Slot}
 use Rattle.base_types.specs.declared.cycle.Cycle.{Cycle}
+use Rattle.checksum.specs.Pair.{isNone}
 use Rattle.header.specs.declared.Header.{Header}
-use Rattle.frame.specs.Read.{headerRead, refusalsOn}
+use Rattle.frame.specs.Read.{headerRead, refusalsOn, ruleOn}
 use Rattle.settings.specs.declared.Settings.{Settings}
 use Rattle.settings.specs.Sheet.{firstOutside}
 use Rattle.slot.specs.declared.status.Tested.{Tested}
@@ -21,7 +22,7 @@ use Rattle.slot.specs.declared.status.Status.{Status}
 use Rattle.slot.specs.Judging.{Place, placeOf, placeBy, fresh, noStatus, firstMiss, isPassed, reasonBy, isReason, isSecondGoodFrame, isFrame, hasArrival}
 use Rattle.slot.specs.Opening.{openingRefusals, Told}
 use Rattle.slot.specs.Sound.{couldBeRead, keepsWell, sound}
-use Rattle.slot_events.specs.Effect.{Event, Brought, arrival, boundaryActivity, ownSending, keptBy, isRefused, ofArrival, brings, reasonIn, joined, after}
+use Rattle.slot_events.specs.Effect.{Event, Brought, arrival, boundaryActivity, ownSending, keptBy, isRefused, ofRefused, ofAccepted, brings, reasonIn, joined, after}
 use Rattle.slot_events.specs.Events.{eventRefusals}
 use Rattle.base_types.proofs.ChannelLaws.{is-a-channel}
 use Rattle.slot_claims.specs.Sound.{NoStatusUnsound, OpenedSound, EventSound}
@@ -42,7 +43,7 @@ fresh-sound settings channel slot cycle none =
     let passed = not-refused (openingRefusals settings channel slot cycle) refl none in
     let opens : first (openingRefusals settings (numberOf (channelOf channel)) slot cycle) ≡ 0 =
     first-skip 17 _ (passed 17) ∙ first-skip 1 _ (is-a-channel (channelOf channel)) ∙ first-skip 9 _ (passed 9) ∙ first-skip 11 _ (passed 11) ∙ first-end in
-    clauses-sound (fresh p) (record { opens = eq-eqb _ 0 opens; content = refl; valid = refl; keeps = refl; second = λ e. absurd (false≢true e); conflict = refl })
+    clauses-sound (fresh p) (record { opens = eq-eqb _ 0 opens; content = refl; valid = refl; keeps = refl; second = λ e. absurd (false≢true e); checksums = λ e. absurd (false≢true e); conflict = refl })
 
 pub opened-sound : OpenedSound
 opened-sound settings channel slot cycle r says accepted =
@@ -60,10 +61,10 @@ pub record Fits (p : Place) (b : Brought) : Type 0 where
   -- no event is both own sending and an arrival
   pub apart : b .sent && b .arrived ≡ false
 
-frame-fits : (p : Place) (h : Header) → couldBeRead h ≡ true → Fits p (ofArrival false (reasonBy (firstMiss p h)) (keptBy (firstMiss p h) h))
+frame-fits : (p : Place) (h : Header) → couldBeRead h ≡ true → Fits p (ofAccepted (reasonBy (firstMiss p h)) (keptBy (firstMiss p h) h))
 frame-fits p h could = by (firstMiss p h) refl
   where
-    by : (t : Tested) → firstMiss p h ≡ t → Fits p (ofArrival false (reasonBy t) (keptBy t h))
+    by : (t : Tested) → firstMiss p h ≡ t → Fits p (ofAccepted (reasonBy t) (keptBy t h))
     by tested.Passed e =
         record { keeps = true-both (couldBeRead h) (isPassed (firstMiss p h)) could (ap isPassed e); one = refl; alone = refl; test = refl; apart = refl }
     by (tested.Missed miss) e = record { keeps = refl; one = refl; alone = refl; test = refl; apart = refl }
@@ -73,7 +74,7 @@ fits p boundaryActivity = record { keeps = refl; one = refl; alone = refl; test 
 fits p ownSending = record { keeps = refl; one = refl; alone = refl; test = refl; apart = refl }
 fits p (arrival bytes) =
     let h = headerRead bytes in
-    cases-in (λ b. Fits p (cond b (ofArrival true reason.NoReason kept.Nothing) (ofArrival false (reasonBy (firstMiss p h)) (keptBy (firstMiss p h) h))))
+    cases-in (λ b. Fits p (cond b (ofRefused (ruleOn (p .channel) bytes .checksums)) (ofAccepted (reasonBy (firstMiss p h)) (keptBy (firstMiss p h) h))))
     (isRefused (p .channel) bytes)
     (λ t. record { keeps = refl; one = refl; alone = refl; test = refl; apart = refl })
     (λ t. frame-fits p h (read-could (p .channel) bytes (eqb-true (first (refusalsOn (p .channel) bytes)) 0 (not-false _ t))))
@@ -138,6 +139,16 @@ second-after s b before test t = true-right (isFrame (b .kept)) (s .valid) (stoo
     stood true e = before e
     stood false e = both-true (isFrame (b .kept)) (s .valid) (second-given s b test e) .1
 
+-- two checksums stand where they stood, or where an arrival is refused; "syntax error" stands in both
+checksums-after : (s : Status) (b : Brought) → (not (isNone (s .checksums)) ≡ true → s .«syntax_error» ≡ true)
+    → not (isNone (joined s b .checksums)) ≡ true → joined s b .«syntax_error» ≡ true
+checksums-after s b before = by (b .refused) (s .«syntax_error») before
+  where
+    by : (refused syntax : Bool) → (not (isNone (s .checksums)) ≡ true → syntax ≡ true)
+        → not (isNone (cond (refused && not syntax) (b .checksums) (s .checksums))) ≡ true → refused || syntax ≡ true
+    by true syntax before t = refl
+    by false syntax before t = before t
+
 joined-sound : (s : Status) (b : Brought) → sound s ≡ true → Fits (placeOf s) b → sound (joined s b) ≡ true
 joined-sound s b good f =
     let c = clauses s good in
@@ -148,6 +159,7 @@ joined-sound s b good f =
       valid = ap (_||_ (isFrame (b .kept))) (c .valid) ∙ sym (first-is isFrame (s .kept) (b .kept));
       keeps = first-has isFrame (s .kept) (b .kept) (keepsWell (placeOf s)) (c .keeps) (f .keeps);
       second = second-after s b (c .second) (f .test);
+      checksums = checksums-after s b (c .checksums);
       conflict =
           ap (λ (x : Bool). b .arrived && s .«own_sending» || (b .sent && hasArrival s || x)) (c .conflict)
           ∙ conflict-after (b .arrived) (b .sent) (s .«own_sending») (hasArrival s) (f .apart)

@@ -8,9 +8,11 @@ use mathlib.Core.List.{List, [], _∷_, _++_}
 use mathlib.Core.Logic.{_⊎_, _↔_}
 use Rattle.base_types.specs.declared.id.Slot.{Slot}
 use Rattle.base_types.specs.declared.cycle.Cycle.{Cycle}
+use Rattle.checksum.specs.declared.pair.ChecksumPair.{ChecksumPair}
+use Rattle.checksum.specs.Pair.{noChecksums}
 use Rattle.header.specs.declared.Header.{Header}
 use Rattle.frame.specs.declared.Reading.the-variants.{Accepted}
-use Rattle.frame.specs.Read.{ReadOnSays}
+use Rattle.frame.specs.Read.{ruleOn, ReadOnSays}
 use Rattle.settings.specs.declared.Settings.{Settings}
 use Rattle.slot.specs.declared.status.Miss.{Miss}
 use Rattle.slot.specs.declared.status.Tested.the-variants as tested
@@ -36,6 +38,10 @@ Arrives e = (bytes : List ℕ) × (e ≡ arrival bytes)
 -- Bytes arrived that reading refuses on the slot's channel: it accepts them with no header.
 abbrev pub ArrivesRefused : Place → Event → Type 0
 ArrivesRefused p e = (bytes : List ℕ) × (e ≡ arrival bytes) × ((h : Header) → ReadOnSays (p .channel) bytes (Accepted h) → ⊥)
+
+-- Bytes arrived of which reading tells these two checksums on the slot's channel.
+abbrev pub ArrivesTelling : Place → ChecksumPair → Event → Type 0
+ArrivesTelling p checksums e = (bytes : List ℕ) × (e ≡ arrival bytes) × (ruleOn (p .channel) bytes .checksums ≡ checksums)
 
 -- A frame arrived whose first miss is this one.
 abbrev pub ArrivesMissing : Place → Miss → Event → Type 0
@@ -86,11 +92,15 @@ PassesAgain p before e = Some (AnyTime (PassesAll p)) before × PassesAll p e
 abbrev pub GivesReason : Place → List Event → Event → Type 0
 GivesReason p before e = Misses p e ⊎ PassesAgain p before e
 
--- 01's sentences over all events of a slot that was opened so, with that of 02 (C-15).
+-- 01's sentences over all events of a slot that was opened so, with those of 02 (C-15, C-18).
 pub record History (p : Place) (events : List Event) (s : Status) : Type 0 where
   pub place : placeOf s ≡ p
   -- Syntax error exactly when some arrival was refused.
   pub syntax : (s .«syntax_error» ≡ true) ↔ Some (AnyTime (ArrivesRefused p)) events
+  -- The two checksums are those that reading tells of the first such arrival, and 0 for both where there was none.
+  pub checksums : (told : ChecksumPair)
+      → ((s .«syntax_error» ≡ true) × (s .checksums ≡ told)) ↔ FirstIs (AnyTime (ArrivesRefused p)) (AnyTime (ArrivesTelling p told)) events
+  pub none : (Some (AnyTime (ArrivesRefused p)) events → ⊥) → s .checksums ≡ noChecksums
   -- Content error exactly when some frame missed a test or some frame passed after another had passed. The reason is that of the first such
   -- event: the test that it missed, or (f).
   pub content : (s .«content_error» ≡ true) ↔ Some (GivesReason p) events

@@ -1,7 +1,8 @@
 -- Claims about soundness. 01: "A slot status is sound if its settings, channel, slot and cycle would open a slot, a content reason stands
 -- exactly with "content error", a frame is kept exactly with "valid", is one that a read could give and passes (a) to (e), and
 -- "conflict" stands exactly when own sending is recorded and one of "syntax error", "content error" and "valid" stands", and "Every accepted
--- call returns a sound state." 02 (C-15) adds: "(f) only with "valid"".
+-- call returns a sound state." 02 adds: "(f) only with "valid"" (C-15), and of the checksums of the first syntax error "0, 0 without one, else
+-- unsound" (C-18).
 use Prim.Native.Nat.{ℕ}
 use mathlib.Core.Path.{_≡_}
 use mathlib.Core.Bool.{true, false}
@@ -12,6 +13,7 @@ use Rattle.base_types.specs.declared.channel.Channel.{Channel}
 use Rattle.base_types.specs.Channel.{numberOf}
 use Rattle.base_types.specs.declared.id.Slot.{Slot}
 use Rattle.base_types.specs.declared.cycle.Cycle.{Cycle}
+use Rattle.checksum.specs.Pair.{noChecksums}
 use Rattle.header.specs.declared.Header.{Header}
 use Rattle.frame.specs.declared.Reading.the-variants.{Accepted}
 use Rattle.frame.specs.Read.{ReadOnSays}
@@ -41,6 +43,7 @@ pub record SoundStatus (s : Status) : Type 0 where
   pub valid : (s .valid ≡ true) ↔ ((h : Header) × (s .kept ≡ Frame h))
   pub kept : (h : Header) → s .kept ≡ Frame h → Readable (s .channel) h × Passes (placeOf s) h
   pub second : s .reason ≡ SecondGoodFrame → s .valid ≡ true
+  pub checksums : s .«syntax_error» ≡ false → s .checksums ≡ noChecksums
   pub conflict : (s .conflict ≡ true)
       ↔ (s .«own_sending» ≡ true) × ((s .«syntax_error» ≡ true) ⊎ ((s .«content_error» ≡ true) ⊎ (s .valid ≡ true)))
 

@@ -11,7 +11,7 @@ use Rattle.header.specs.declared.Header.{Header}
 use Rattle.header.specs.Layout.{noHeader}
 use Rattle.frame.specs.declared.Reading.{Reading}
 use Rattle.frame.specs.declared.Reading.the-variants as reading
-use Rattle.frame.specs.Read.{headerRead, refusalsOn, ReadOnSays}
+use Rattle.frame.specs.Read.{headerRead, refusalsOn, ruleOn, ReadOnSays}
 use Rattle.frame.specs.Read as read
 use Rattle.slot.specs.declared.status.Reason.{Reason}
 use Rattle.slot.specs.declared.status.Reason.the-variants as reason
@@ -22,7 +22,7 @@ use Rattle.slot.specs.Judging.{Place, firstMiss, reasonBy, firstReason, firstKe
 use Rattle.slot.specs.Sound.{sound}
 use Rattle.slot_events.specs.declared.Recording.the-variants as recording
 use Rattle.slot_events.specs.declared.Judged.{Judged}
-use Rattle.slot_events.specs.Effect.{Event, arrival, keptBy, ofArrival, isRefused, brings, after}
+use Rattle.slot_events.specs.Effect.{Event, arrival, keptBy, ofRefused, ofAccepted, isRefused, brings, after}
 use Rattle.slot_events.specs.Events.{eventRefusals, EventSays}
 
 -- ---- no reason, no frame
@@ -39,15 +39,16 @@ first-kept-none (kept.Frame h) = refl
 -- ---- the reader's answer
 
 pub brings-refused : (p : Place) (bytes : List ℕ) → isRefused (p .channel) bytes ≡ true
-    → brings p (arrival bytes) ≡ ofArrival true reason.NoReason kept.Nothing
+    → brings p (arrival bytes) ≡ ofRefused (ruleOn (p .channel) bytes .checksums)
 brings-refused p bytes out = rw out
 
 pub brings-refusal : (p : Place) (bytes : List ℕ) (r : Reading) → ReadOnSays (p .channel) bytes r → (read.told r .number ≡ 0 → ⊥)
-    → brings p (arrival bytes) ≡ ofArrival true reason.NoReason kept.Nothing
+    → brings p (arrival bytes) ≡ ofRefused (read.told r .checksums)
 brings-refusal p bytes r says refused =
     brings-refused p bytes
     (ap not
     (ne-eqb (first (refusalsOn (p .channel) bytes)) 0 (λ e. refused (ap (λ (t : read.Told). t .number) says ∙ e))))
+    ∙ ap (λ (t : read.Told). ofRefused (t .checksums)) (sym says)
 
 -- an accepted answer: nothing is refused, and the header is the one that was read
 pub accepted-none : (channel : Channel) (bytes : List ℕ) (h : Header) → ReadOnSays channel bytes (reading.Accepted h)
@@ -59,7 +60,7 @@ accepted-none channel bytes h says =
     )
 
 pub brings-frame : (p : Place) (bytes : List ℕ) (h : Header) → ReadOnSays (p .channel) bytes (reading.Accepted h)
-    → brings p (arrival bytes) ≡ ofArrival false (reasonBy (firstMiss p h)) (keptBy (firstMiss p h) h)
+    → brings p (arrival bytes) ≡ ofAccepted (reasonBy (firstMiss p h)) (keptBy (firstMiss p h) h)
 brings-frame p bytes h says =
     let a = accepted-none (p .channel) bytes h says in
     let accepted : isRefused (p .channel) bytes ≡ false = ap not (eq-eqb (first (refusalsOn (p .channel) bytes)) 0 (a .0)) in

@@ -5,8 +5,10 @@ use mathlib.Core.List.{List}
 use lib.Dec.{eqb}
 use Rattle.refusal.specs.Refusal.{first}
 use Rattle.base_types.specs.declared.channel.Channel.{Channel}
+use Rattle.checksum.specs.declared.pair.ChecksumPair.{ChecksumPair}
+use Rattle.checksum.specs.Pair.{noChecksums}
 use Rattle.header.specs.declared.Header.{Header}
-use Rattle.frame.specs.Read.{headerRead, refusalsOn}
+use Rattle.frame.specs.Read.{headerRead, refusalsOn, ruleOn}
 use Rattle.slot.specs.declared.status.Tested.{Tested}
 use Rattle.slot.specs.declared.status.Reason.{Reason}
 use Rattle.slot.specs.declared.status.Reason.the-variants.{NoReason, SecondGoodFrame}
@@ -27,8 +29,9 @@ pub data Event : Type 0 where
 pub record Brought : Type 0 where
   -- Bytes arrived.
   pub arrived : Bool
-  -- Reading them on the slot's channel refuses them.
+  -- Reading them on the slot's channel refuses them, and tells these two checksums.
   pub refused : Bool
+  pub checksums : ChecksumPair
   -- The reason that a miss gives, and the header of a frame that passes all tests.
   pub reason : Reason
   pub kept : Kept
@@ -37,10 +40,14 @@ pub record Brought : Type 0 where
   -- Own sending.
   pub sent : Bool
 
--- What an arrival brings: whether it is refused, and a reason or a frame to keep.
-abbrev pub ofArrival : Bool → Reason → Kept → Brought
-ofArrival refused reason kept =
-    record { arrived = true; refused = refused; reason = reason; kept = kept; atBoundary = false; sent = false }
+-- What an arrival brings that is refused: two checksums. What a frame brings: a reason or a frame to keep.
+abbrev pub ofRefused : ChecksumPair → Brought
+ofRefused checksums =
+    record { arrived = true; refused = true; checksums = checksums; reason = NoReason; kept = Nothing; atBoundary = false; sent = false }
+
+abbrev pub ofAccepted : Reason → Kept → Brought
+ofAccepted reason kept =
+    record { arrived = true; refused = false; checksums = noChecksums; reason = reason; kept = kept; atBoundary = false; sent = false }
 
 -- "Each arrival is read on the slot's channel": a read refusal.
 abbrev pub isRefused : Channel → List ℕ → Bool
@@ -53,10 +60,12 @@ keptBy tested h = cond (isPassed tested) (Frame h) Nothing
 -- What an event brings in a slot that was opened so.
 abbrev pub brings : Place → Event → Brought
 brings p (arrival bytes) =
-    cond (isRefused (p .channel) bytes) (ofArrival true NoReason Nothing)
-    (ofArrival false (reasonBy (firstMiss p (headerRead bytes))) (keptBy (firstMiss p (headerRead bytes)) (headerRead bytes)))
-brings p boundaryActivity = record { arrived = false; refused = false; reason = NoReason; kept = Nothing; atBoundary = true; sent = false }
-brings p ownSending = record { arrived = false; refused = false; reason = NoReason; kept = Nothing; atBoundary = false; sent = true }
+    cond (isRefused (p .channel) bytes) (ofRefused (ruleOn (p .channel) bytes .checksums))
+    (ofAccepted (reasonBy (firstMiss p (headerRead bytes))) (keptBy (firstMiss p (headerRead bytes)) (headerRead bytes)))
+brings p boundaryActivity =
+    record { arrived = false; refused = false; checksums = noChecksums; reason = NoReason; kept = Nothing; atBoundary = true; sent = false }
+brings p ownSending =
+    record { arrived = false; refused = false; checksums = noChecksums; reason = NoReason; kept = Nothing; atBoundary = false; sent = true }
 
 -- ---- what it leaves
 
@@ -64,6 +73,14 @@ brings p ownSending = record { arrived = false; refused = false; reason = NoReas
 -- C-15): it is later where "valid" stood before it.
 abbrev pub reasonIn : Status → Brought → Reason
 reasonIn s b = cond (isFrame (b .kept) && s .valid) SecondGoodFrame (b .reason)
+
+-- An event is the first syntax error where it is refused and none was before it.
+abbrev pub isFirstRefused : Status → Brought → Bool
+isFirstRefused s b = b .refused && not (s .«syntax_error»)
+
+-- "keeps the pair of the first syntax error" (02, C-18).
+abbrev pub checksumsIn : Status → Brought → ChecksumPair
+checksumsIn s b = cond (isFirstRefused s b) (b .checksums) (s .checksums)
 
 -- "Flags never clear within a slot": each stands if the event sets it or if it stood before.
 abbrev pub joined : Status → Brought → Status
@@ -86,6 +103,7 @@ joined s b =
       «own_sending» = b .sent || s .«own_sending»;
       reason = firstReason (s .reason) (reasonIn s b);
       kept = firstKept (s .kept) (b .kept);
+      checksums = checksumsIn s b;
     }
 
 -- The status after an event.

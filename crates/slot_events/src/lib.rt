@@ -3,10 +3,10 @@
 // Entries: `arrived` on a status and bytes, `boundary` and `sent` on a status. Each takes whatever comes and gives an answer and
 // a status.
 ghost use mathlib.Core.Path.{_≡_};
-ghost use mathlib.Core.Bool.{false};
 ghost use Rattle.slot_events.specs.declared.Recording.the-variants.{Recorded, NotSound};
-ghost use Rattle.slot_events.specs.Effect.{arrival, boundaryActivity, ownSending, keptBy, ofArrival, reasonIn, joined};
+ghost use Rattle.slot_events.specs.Effect.{arrival, boundaryActivity, ownSending, keptBy, ofRefused, ofAccepted, reasonIn, checksumsIn, joined};
 ghost use Rattle.slot_events.specs.Events.{told, EventSays};
+use checksum::ChecksumPair;
 use frame::Reading;
 use header::Header;
 use slot::Kept;
@@ -47,13 +47,11 @@ pub fn arrived(status: Status, bytes: &[u8]) -> Judged
     let channel = status.channel;
     let reading = frame::read_on(channel, bytes);
     let Reading::Accepted(header) = reading else {
-        let mut next = with_arrival(status, Reason::NoReason, Kept::Nothing);
-        next.syntax_error = true;
-        return recorded(next);
+        return recorded(with_refused(status, reading.checksums()));
     };
     let tested = slot::first_miss(status, header);
     let kept = kept_by(tested, header);
-    recorded(with_arrival(status, tested.reason(), kept))
+    recorded(with_accepted(status, tested.reason(), kept))
 }
 
 // Activity at a boundary of the slot.
@@ -113,7 +111,7 @@ fn kept_by(tested: Tested, header: Header) -> Kept
 // The reason that an arrival gives in this slot: that of the test that it misses, or (f) where it passes all and another had passed before
 // it. That one had, "valid" tells, as it stands before this arrival.
 fn reason_in(status: Status, reason: Reason, kept: Kept) -> Reason
-    ensures { λ r. ⌜ r ≡ reasonIn status (ofArrival false reason kept) ⌝ }
+    ensures { λ r. ⌜ r ≡ reasonIn status (ofAccepted reason kept) ⌝ }
 {
     let is_passed = kept.is_frame();
     if is_passed & status.valid {
@@ -122,10 +120,30 @@ fn reason_in(status: Status, reason: Reason, kept: Kept) -> Reason
     reason
 }
 
-// The status after an arrival, by the reason of a miss and by the frame to keep. Of an arrival that is refused only the syntax
-// error is still to be set.
-fn with_arrival(status: Status, reason: Reason, kept: Kept) -> Status
-    ensures { λ r. ⌜ r ≡ joined status (ofArrival false reason kept) ⌝ }
+// The two checksums that are kept beside those of an arrival that is refused: those of the first such.
+fn checksums_in(status: Status, told: ChecksumPair) -> ChecksumPair
+    ensures { λ r. ⌜ r ≡ checksumsIn status (ofRefused told) ⌝ }
+{
+    if status.syntax_error {
+        return status.checksums;
+    }
+    told
+}
+
+// The status after an arrival that is refused, by the two checksums that reading tells. It gives no reason and no frame to keep.
+fn with_refused(status: Status, told: ChecksumPair) -> Status
+    ensures { λ r. ⌜ r ≡ joined status (ofRefused told) ⌝ }
+{
+    let checksums = checksums_in(status, told);
+    let mut next = with_accepted(status, Reason::NoReason, Kept::Nothing);
+    next.syntax_error = true;
+    next.checksums = checksums;
+    next
+}
+
+// The status after a frame, by the reason of a miss and by the frame to keep.
+fn with_accepted(status: Status, reason: Reason, kept: Kept) -> Status
+    ensures { λ r. ⌜ r ≡ joined status (ofAccepted reason kept) ⌝ }
 {
     let settings = status.settings;
     let channel = status.channel;
@@ -133,6 +151,7 @@ fn with_arrival(status: Status, reason: Reason, kept: Kept) -> Status
     let cycle = status.cycle;
     let first_reason = status.reason;
     let first_kept = status.kept;
+    let checksums = status.checksums;
     let given = reason_in(status, reason, kept);
     let gives_reason = given.is_reason();
     let is_passed = kept.is_frame();
@@ -149,5 +168,6 @@ fn with_arrival(status: Status, reason: Reason, kept: Kept) -> Status
         own_sending: status.own_sending,
         reason: first_reason.or_later(given),
         kept: first_kept.or_later(kept),
+        checksums,
     }
 }

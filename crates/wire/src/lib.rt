@@ -7,6 +7,7 @@ ghost use mathlib.Core.Path.{_≡_};
 ghost use Rattle.wire.specs.Packing.{mostPacked};
 ghost use Rattle.wire.specs.Refusals.{notAStartLength};
 ghost use Rattle.wire.specs.Encode.{told, EncodeSays};
+use checksum::ChecksumPair;
 use frame::Reading;
 
 // What encoding answers: the number of bits, or why there are none. Bytes that are not a frame come with reading's own answer.
@@ -38,6 +39,16 @@ impl Encoding {
             return 0;
         };
         count
+    }
+
+    // The two checksums that reading tells of bytes that are not a frame, 0 for both with any other answer (02, C-18).
+    pub fn checksums(self) -> ChecksumPair
+        ensures { λ r. ⌜ r ≡ told self .refusal .checksums ⌝ }
+    {
+        let Encoding::NotAFrame(reading) = self else {
+            return ChecksumPair::NONE;
+        };
+        reading.checksums()
     }
 }
 

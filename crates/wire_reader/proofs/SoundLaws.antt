@@ -20,7 +20,7 @@ use Rattle.bit_clock.specs.Clock.{votes, vote, falls, strobes, after, soundCloc
 use Rattle.bit_clock.proofs.SoundLaws.{stays-sound, counter-in}
 use Rattle.wire_reader.specs.declared.phase.Phase.{Phase}
 use Rattle.wire_reader.specs.declared.phase.Phase.the-variants.{Waiting, Start, FrameStart, ByteStart, ByteStartLow, Byte, End, EndHigh}
-use Rattle.wire_reader.specs.Decoder.{Place, Decoded, moved, failed, entered, headerWrong, complete, behindByte, decoded, isData, counted}
+use Rattle.wire_reader.specs.Decoder.{Place, Decoded, moved, failed, entered, headerWrong, checksumsOf, complete, behindByte, decoded, isData, counted}
 use Rattle.wire_reader.specs.Reader.{State, isIdle, kept, strobed, ticked, step, readerOf}
 use Rattle.wire_reader.specs.declared.reader.Reader.{Reader}
 use Rattle.wire_reader.specs.Sound.{slackOf, soundPhase, soundTimer, isWaiting, sound}
@@ -62,7 +62,7 @@ behind-fine count since slack memory low high room bound =
     let l = take count memory in
     let n : length l ≡ count = length-take-le count memory room in
     let w = words-le l in
-    fine-if (headerWrong l) (failed (read.refused 4) memory) (moved (cond (complete l) End ByteStart) count since memory) slack
+    fine-if (headerWrong l) (failed (read.refusedWith 4 (checksumsOf l)) memory) (moved (cond (complete l) End ByteStart) count since memory) slack
     (λ e. (refl, refl))
     (λ e. cases-in (λ (b : Bool). FinePlace (moved (cond b End ByteStart) count since memory .place) slack) (complete l)
     (λ q. let k = leb-true (8 + 2 * read.headerRead l .words) (length l) q in (omega arith, high, omega arith))

@@ -6,7 +6,9 @@ use lib.Dec.{eqb, ltb, leb}
 use lib.ListN.{length, take, set}
 use Rattle.division.specs.Bits.{bit}
 use Rattle.base_types.specs.declared.channel.Channel.{Channel}
+use Rattle.checksum.specs.declared.pair.ChecksumPair.{ChecksumPair}
 use Rattle.header.specs.declared.Header.{Header}
+use Rattle.header.specs.Layout.{headerChecksums}
 use Rattle.frame.specs.Refusals.{headerChecksumDiffers}
 use Rattle.frame.specs.Read as read
 use Rattle.wire_reader.specs.declared.phase.Phase.{Phase}
@@ -58,6 +60,10 @@ failed told memory = record { place = without Waiting memory; told = wrong told 
 unfoldable pub headerWrong : List ℕ → Bool
 headerWrong bytes = eqb (length bytes) 5 && headerChecksumDiffers (read.headerRead bytes)
 
+-- The two checksums that are told with it, as reading tells them beside 4 (02, C-18).
+abbrev pub checksumsOf : List ℕ → ChecksumPair
+checksumsOf bytes = headerChecksums (read.headerRead bytes)
+
 -- There are as many bytes as the header says: "8 + 2 x words".
 unfoldable pub complete : List ℕ → Bool
 complete bytes = leb (8 + 2 * read.headerRead bytes .words) (length bytes)
@@ -65,7 +71,7 @@ complete bytes = leb (8 + 2 * read.headerRead bytes .words) (length bytes)
 -- After a byte.
 abbrev pub behindByte : ℕ → ℕ → List ℕ → Decoded
 behindByte count since memory =
-    cond (headerWrong (take count memory)) (failed (read.refused 4) memory)
+    cond (headerWrong (take count memory)) (failed (read.refusedWith 4 (checksumsOf (take count memory))) memory)
     (moved (cond (complete (take count memory)) End ByteStart) count since memory)
 
 -- At the low bit of the end, by what reading tells of the bytes.

@@ -6,6 +6,8 @@ use mathlib.Core.List.{List, [], _∷_, map}
 use lib.Dec.{eqb, ltb}
 use lib.ListN.{length}
 use Rattle.refusal.specs.Refusal.{Line, _when_, first, ifAccepted}
+use Rattle.checksum.specs.declared.pair.ChecksumPair.{ChecksumPair}
+use Rattle.checksum.specs.Pair.{noChecksums}
 use Rattle.header.specs.Layout.{longestFrame}
 use Rattle.frame.specs.Read as read
 use Rattle.wire_reader.specs.declared.event.Event.{Event}
@@ -41,6 +43,12 @@ abbrev pub numberIn : decoder.Told → ℕ
 numberIn decoder.nothing = 0
 numberIn (decoder.frame header size since) = 0
 numberIn (decoder.wrong told) = told .number
+
+-- The two checksums of an event: those that reading tells, and 0 for both where it tells nothing (02, C-18).
+abbrev pub checksumsIn : decoder.Told → ChecksumPair
+checksumsIn decoder.nothing = noChecksums
+checksumsIn (decoder.frame header size since) = noChecksums
+checksumsIn (decoder.wrong told) = told .checksums
 
 -- What the answer says: the refusal, 0 for none, and the event, which beside a refusal is none.
 pub record Told : Type 0 where

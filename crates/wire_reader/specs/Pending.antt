@@ -11,7 +11,7 @@ use Rattle.wire_reader.specs.declared.decoder.After.{After}
 use Rattle.wire_reader.specs.declared.decoder.After.the-variants as after
 use Rattle.wire_reader.specs.declared.reader.Sampled.{Sampled}
 use Rattle.wire_reader.specs.declared.listening.Listened.{Listened}
-use Rattle.wire_reader.specs.Decoder.{Decoded, headerWrong, complete}
+use Rattle.wire_reader.specs.Decoder.{Decoded, headerWrong, checksumsOf, complete}
 use Rattle.wire_reader.specs.Reader.{Step, Piece, stateOf, readerOf}
 use Rattle.wire_reader.specs.Listening.{toldBy, told}
 
@@ -25,7 +25,7 @@ decodedBy d memory =
 
 -- What stands behind these bytes of a frame.
 abbrev pub afterOf : List ℕ → After
-afterOf bytes = cond (headerWrong bytes) after.HeaderWrong (cond (complete bytes) after.End after.ByteStart)
+afterOf bytes = cond (headerWrong bytes) (after.HeaderWrong (checksumsOf bytes)) (cond (complete bytes) after.End after.ByteStart)
 
 -- A bit needs room: for the byte that it may end, and for the bits of that byte.
 abbrev pub mostBytes : Phase → ℕ

@@ -16,6 +16,7 @@ use crate::phase::MOST_HIGH;
 use crate::phase::MOST_LOW;
 use crate::phase::Phase;
 use base_types::Channel;
+use checksum::ChecksumPair;
 use frame::Reading;
 
 // What comes of a strobed bit. The memory is the caller's.
@@ -28,7 +29,8 @@ pub(crate) struct Decoded {
 
 // What stands behind a byte.
 pub(crate) enum After {
-    HeaderWrong,
+    // With the two checksums, which differ.
+    HeaderWrong(ChecksumPair),
     End,
     ByteStart,
 }
@@ -122,7 +124,9 @@ fn end_byte(value: u8, count: u16, since: u32, memory: &mut [u8]) -> Decoded
     memory[count as usize] = value;
     let size = count + 1;
     match after_byte(&memory[0..size as usize]) {
-        After::HeaderWrong => failed(Event::NotAFrame(Reading::HeaderChecksumDiffers)),
+        After::HeaderWrong(checksums) => {
+            failed(Event::NotAFrame(Reading::HeaderChecksumDiffers(checksums)))
+        }
         After::End => moved(Phase::End, size, since),
         After::ByteStart => moved(Phase::ByteStart, size, since),
     }
@@ -139,8 +143,9 @@ fn after_byte(bytes: &[u8]) -> After
     let header = header::unpacked(sent);
     let size = 8 + 2 * header.words as usize;
     if bytes.len() == 5 {
-        if header.checksum != header::checksum_of(sent) {
-            return After::HeaderWrong;
+        let checksums = header::checksums_of(sent);
+        if checksums.found != checksums.expected {
+            return After::HeaderWrong(checksums);
         }
         return After::ByteStart;
     }

@@ -1,7 +1,8 @@
 // What a sample tells.
 ghost use mathlib.Core.Path.{_≡_};
 ghost use Rattle.wire_reader.specs.Decoder.{isNothing};
-ghost use Rattle.wire_reader.specs.Listening.{toldBy, numberIn};
+ghost use Rattle.wire_reader.specs.Listening.{toldBy, numberIn, checksumsIn};
+use checksum::ChecksumPair;
 use frame::Reading;
 use header::Header;
 
@@ -42,6 +43,16 @@ impl Event {
             Event::EndNotLow => 34,
             Event::EndNotHigh => 35,
         }
+    }
+
+    // The two checksums that reading tells of bytes that are no frame, 0 for both with any other event (02, C-18).
+    pub fn checksums(self) -> ChecksumPair
+        ensures { λ r. ⌜ r ≡ checksumsIn (toldBy self) ⌝ }
+    {
+        let Event::NotAFrame(reading) = self else {
+            return ChecksumPair::NONE;
+        };
+        reading.checksums()
     }
 
     pub fn is_nothing(self) -> bool

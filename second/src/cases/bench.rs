@@ -2,6 +2,7 @@
 
 use crate::bench::LONGEST_INPUT;
 use crate::channel::Channel;
+use crate::checksum_pair::ChecksumPair;
 use crate::draft::{Draft, FOREIGN_CHANNELS};
 use crate::faults::{faulty_bench, selections};
 use crate::frame::{HIGHEST_CYCLE, HIGHEST_ID, LARGEST_FRAME, MOST_WORDS, NULL_FRAME_BIT, SMALLEST_FRAME};
@@ -60,7 +61,7 @@ fn add_listed_frames(plan: &mut Plan, channel: Channel) {
     for frame in listed_frames::ALL {
         let bytes = frame.bytes(channel);
         add_listed(plan, &on(channel.number(), &bytes), frame.bench_line);
-        add_listed(plan, &on(channel.other().number(), &bytes), "refused 8");
+        add_listed(plan, &on(channel.other().number(), &bytes), &format!("refused 8 {}", frame.strange(channel)));
         for foreign in FOREIGN_CHANNELS {
             add_listed(plan, &on(foreign, &bytes), "refused 1");
         }
@@ -69,8 +70,16 @@ fn add_listed_frames(plan: &mut Plan, channel: Channel) {
 
 /// One frame, and what is made of it for each refusal.
 fn add_each_refusal(plan: &mut Plan, channel: Channel) {
-    for (number, given) in (1..).zip(listed_frames::refused(channel)) {
-        add_listed(plan, &on(given.channel, &given.bytes), &format!("refused {number}"));
+    for (number, (given, checksums)) in (1..).zip(listed_frames::refused(channel)) {
+        add_listed(plan, &on(given.channel, &given.bytes), &refused_line(number, checksums));
+    }
+}
+
+/// 02 C-18: both checksums behind 4 and 8, and nothing behind the others.
+pub(super) fn refused_line(number: u8, checksums: ChecksumPair) -> String {
+    match number {
+        4 | 8 => format!("refused {number} {checksums}"),
+        _ => format!("refused {number}"),
     }
 }
 
@@ -142,7 +151,8 @@ fn add_refused_size(plan: &mut Plan, random: &mut Random, size: usize) {
     }
     let words = ((frame_size - SMALLEST_FRAME) / 2) as u8;
     let wrong = Draft { header_checksum_change: 0x400, ..Draft::fair(random, channel, words) };
-    plan.add(Command::bench(channel.number(), &wrong.bytes()), Expected::line("refused 4"));
+    let line = refused_line(4, wrong.header_checksums());
+    plan.add(Command::bench(channel.number(), &wrong.bytes()), Expected::Line(line));
 }
 
 fn add_bytes(plan: &mut Plan, random: &mut Random, channel: Channel, size: usize, line: &str) {

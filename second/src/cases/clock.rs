@@ -1,6 +1,7 @@
 //! The listed cases of the clock, subject by subject.
 
 pub(super) mod between;
+mod both_checksums;
 mod controls;
 mod cycles;
 mod damping;
@@ -47,4 +48,5 @@ pub fn add(plan: &mut Plan, random: &mut Random) {
     between::add(plan, random);
     second_frames::add(plan, random);
     sheet_marks::add(plan, random);
+    both_checksums::add(plan, random);
 }

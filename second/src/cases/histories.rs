@@ -70,8 +70,8 @@ fn add_sets_of_marks(plan: &mut Plan, random: &mut Random, channel: Channel, kin
 fn add_unreadable(plan: &mut Plan, random: &mut Random, channel: Channel, kind: Kind) {
     for refusal in &READ_ORDER[1..] {
         let scene = Scene::fair(random, channel, kind);
-        let bytes = scene.refused(random, *refusal);
-        play_opened(plan, &scene, &[Happening::Refused(bytes)]);
+        let unreadable = scene.refused(random, *refusal);
+        play_opened(plan, &scene, &[Happening::Refused(unreadable)]);
     }
     let scene = Scene::fair(random, channel, kind);
     let strange = scene.strange(random);

@@ -29,7 +29,7 @@ fn add_check_values(plan: &mut Plan) {
 fn add_header(plan: &mut Plan) {
     for channel in Channel::BOTH {
         let (number, own) = (channel.number(), SHORT.bytes(channel));
-        plan.add(Command::read(number, &own), Expected::line("read 0 0 0 1 0 0 1 0 1695 0 -"));
+        plan.add(Command::read(number, &own), Expected::line("read 0 0 0 1 0 0 1 0 1695 0 - 0 0"));
         plan.add(Command::read(number, &SHORT.bytes(channel.other())), Expected::Refused(Refusal::FrameChecksum));
         for spare in [0, 1, 5] {
             add_written_header(plan, channel, &own, spare);

@@ -38,9 +38,10 @@ pub(super) fn hex(bytes: &[u8]) -> String {
 /// Read on both channels, written, and its checksum worked out.
 fn add_whole_frame(plan: &mut Plan, channel: Channel, frame: &ListedFrame) {
     let bytes = frame.bytes(channel);
-    let read = format!("read 0 {} {}", frame.fields, hex(frame.payload));
+    let read = format!("read 0 {} {} 0 0", frame.fields, hex(frame.payload));
     add_number(plan, Command::read(channel.number(), &bytes), read);
-    add_number(plan, Command::read(channel.other().number(), &bytes), "read 8 -".to_string());
+    let strange = format!("read 8 - {}", frame.strange(channel));
+    add_number(plan, Command::read(channel.other().number(), &bytes), strange);
     add_number(plan, Command::Write(frame.write(channel)), format!("write 0 {} {}", bytes.len(), hex(&bytes)));
     let [high, middle, low] = frame.trailer(channel);
     let checksum = u32::from_be_bytes([0, high, middle, low]);
@@ -49,7 +50,9 @@ fn add_whole_frame(plan: &mut Plan, channel: Channel, frame: &ListedFrame) {
 }
 
 /// Sync and startup, ID and words with the header checksum that belongs to them.
-pub const HEADER_CHECKSUMS: [(u8, u8, u16, u8, u16); 6] = [
+type Covered = (u8, u8, u16, u8, u16);
+
+pub const HEADER_CHECKSUMS: [Covered; 6] = [
     (0, 0, 1, 0, 0x69F),
     (1, 1, 1, 8, 0x11B),
     (1, 0, 2047, 127, 0x4F7),
@@ -58,25 +61,21 @@ pub const HEADER_CHECKSUMS: [(u8, u8, u16, u8, u16); 6] = [
     (0, 0, 100, 127, 0x4AA),
 ];
 
-/// The line of a frame without reserved and preamble bit, null frame bit 1, cycle 9 and zeros as payload.
-fn line_of(sync: u8, startup: u8, id: u16, words: u8, checksum: u16) -> String {
-    let payload = hex(&vec![0; 2 * usize::from(words)]);
-    format!("read 0 0 0 1 {sync} {startup} {id} {words} {checksum} 9 {payload}")
-}
-
-fn add_header(plan: &mut Plan, draft: &Draft, line: String) {
-    let channel = draft.channel.number();
+/// A frame without reserved and preamble bit, null frame bit 1, cycle 9 and zeros as payload.
+fn add_header(plan: &mut Plan, draft: &Draft, (sync, startup, id, words, checksum): Covered) {
+    let (channel, payload) = (draft.channel.number(), hex(&vec![0; 2 * usize::from(words)]));
+    let line = format!("read 0 0 0 1 {sync} {startup} {id} {words} {checksum} 9 {payload} 0 0");
     add_number(plan, Command::read(channel, &draft.bytes()), line);
-    // Any other checksum is refused.
+    // Any other checksum is refused, and told before the one that belongs there.
     let wrong = Draft { header_checksum_change: 1, ..draft.clone() };
-    add_number(plan, Command::read(channel, &wrong.bytes()), "read 4 -".to_string());
+    add_number(plan, Command::read(channel, &wrong.bytes()), format!("read 4 - {} {checksum}", checksum ^ 1));
 }
 
 fn add_header_checksums(plan: &mut Plan, channel: Channel) {
-    for (sync, startup, id, words, checksum) in HEADER_CHECKSUMS {
+    for covered in HEADER_CHECKSUMS {
+        let (sync, startup, id, words, _) = covered;
         let flags = NULL_FRAME_BIT | sync << 3 | startup << 4;
-        let draft = Draft::plain(channel, flags, id, words, 9);
-        add_header(plan, &draft, line_of(sync, startup, id, words, checksum));
+        add_header(plan, &Draft::plain(channel, flags, id, words, 9), covered);
     }
 }
 
@@ -97,13 +96,12 @@ fn header_dividing(channel: Channel, number: u32) -> Draft {
 
 /// The same where the bits covered stand for 0, for 1 and for the product of the factors: what is left of 1 is the
 /// polynomial without its highest term, and of the product nothing.
-pub const HEADER_REMAINDERS: [(u8, u8, u16, u8, u16); 3] =
-    [(0, 0, 104, 0, 0), (0, 0, 104, 1, 0x385), (0, 0, 127, 5, 0)];
+pub const HEADER_REMAINDERS: [Covered; 3] = [(0, 0, 104, 0, 0), (0, 0, 104, 1, 0x385), (0, 0, 127, 5, 0)];
 
 fn add_header_polynomial(plan: &mut Plan, channel: Channel) {
     let numbers = [0, 1, checksum::product(&HEADER_FACTORS)];
-    for (number, (sync, startup, id, words, checksum)) in numbers.into_iter().zip(HEADER_REMAINDERS) {
-        add_header(plan, &header_dividing(channel, number), line_of(sync, startup, id, words, checksum));
+    for (number, covered) in numbers.into_iter().zip(HEADER_REMAINDERS) {
+        add_header(plan, &header_dividing(channel, number), covered);
     }
 }
 

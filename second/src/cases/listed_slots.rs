@@ -28,6 +28,9 @@ fn happening(letter: char, channel: Channel) -> Command {
     }
 }
 
+/// 02 C-18: what that frame tells on A and on B; nothing else here tells anything.
+const STRANGE: [&str; 2] = ["3920015 13655786", "13655786 3920015"];
+
 /// What happens, and marks, reason, kept switch and kept frame afterwards.
 const WAYS: [(&str, &str); 16] = [
     ("", "0 0 0 0 0 0 0 0"),
@@ -72,6 +75,8 @@ pub(super) fn add_way(plan: &mut Plan, channel: Channel, letters: &str, shown: &
     for letter in letters.chars() {
         plan.add(happening(letter, channel), Expected::line("event 0"));
     }
-    let line = format!("{CLOCK}\nstatus 1 2 3 4 5 6 7 8 9 0 11 0 {} 1 0 {shown} {USUAL}", channel.number());
+    let number = channel.number();
+    let checksums = if letters.contains('s') { STRANGE[usize::from(number)] } else { "0 0" };
+    let line = format!("{CLOCK}\nstatus 1 2 3 4 5 6 7 8 9 0 11 0 {number} 1 0 {shown} {USUAL} {checksums}");
     plan.add(Command::Show, Expected::Line(line));
 }

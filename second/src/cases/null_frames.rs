@@ -60,7 +60,7 @@ fn add_listed(plan: &mut Plan, channel: Channel) {
     let written = NULL_FRAMES[1..].iter().map(|frame| format!("write 0 12 {}", hex(&frame.bytes(channel))));
     for (frame, line) in NULL_FRAMES.iter().zip(iter::once(not_written).chain(written)) {
         let bytes = frame.bytes(channel);
-        let read = format!("read 0 {} {}", frame.fields, hex(frame.payload));
+        let read = format!("read 0 {} {} 0 0", frame.fields, hex(frame.payload));
         plan.add(Command::read(channel.number(), &bytes), Expected::Line(read));
         plan.add(Command::Write(frame.write(channel)), Expected::Line(line));
         plan.add(Command::bench(channel.number(), &bytes), Expected::line(frame.bench_line));

@@ -2,6 +2,7 @@
 
 mod between;
 mod borders;
+mod both_checksums;
 mod clean;
 mod cuts;
 mod damaged;
@@ -44,6 +45,7 @@ pub fn add(plan: &mut Plan, random: &mut Random) {
     soundness::add(plan);
     unlooked::add(plan);
     between::add(plan, random);
+    both_checksums::add(plan, random);
 }
 
 /// An opening that is taken.
@@ -74,7 +76,7 @@ fn open_and_hear(plan: &mut Plan, channel: Channel, samples: &[u8], told: &[u8])
 /// the reference point, less one.
 fn line_of(taken: usize, draft: &Draft) -> String {
     let bytes = draft.bytes();
-    format!("heard 0 {taken} {} {} {}", 80 * bytes.len() - 8, field_numbers(&draft.fields()), hex(&bytes))
+    format!("heard 0 {taken} {} {} {} 0 0", 80 * bytes.len() - 8, field_numbers(&draft.fields()), hex(&bytes))
 }
 
 /// A frame that is known whole.

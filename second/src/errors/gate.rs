@@ -26,7 +26,7 @@ event 0
 load 0 0
 open 0
 clock 1 2 3 4 5 6 7 8 9 0 11 1 1 4 0 0 0 EVEN 0 ODD 0 305419896 EVEN ODD
-status 1 2 3 4 5 6 7 8 9 0 11 1 0 1 0 16 0 1 4 1 0 1695 0 305419896
+status 1 2 3 4 5 6 7 8 9 0 11 1 0 1 0 16 0 1 4 1 0 1695 0 305419896 0 0
 script error at 7
 ";
 

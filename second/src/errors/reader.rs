@@ -46,17 +46,17 @@ fn shown(numbers: &str) -> String {
 /// is shown has the frame at its front.
 pub(super) fn good_ones() -> Vec<(Command, String)> {
     let stream = samples::short_stream(Channel::A);
-    let heard = "heard 0 767 632 0 0 1 0 0 1 0 1695 0 200101a7c0d05eea\nheard 0 9\n";
+    let heard = "heard 0 767 632 0 0 1 0 0 1 0 1695 0 200101a7c0d05eea 0 0\nheard 0 9 0 0\n";
     let shown = format!("reader 0 15 4 1 7 1 9 0 0 0 0 0 200101a7c0d05eea{}\n", "a5".repeat(MEMORY - 8));
     let line = |line: &str| line.to_string();
     vec![
-        (Command::listen(&[]), line("heard 23 0\n")),
+        (Command::listen(&[]), line("heard 23 0 0 0\n")),
         (Command::OpenReader(0), line("reader 0\n")),
         (Command::listen(&stream), line(heard)),
         (Command::ShowReader, shown),
         (Command::PutReader(READER), line("reader put\n")),
-        (Command::Listen(Listen { room: 261, runs: vec![] }), line("heard 36 0\n")),
-        (Command::Listen(Listen { room: 262, runs: vec![Run { sample: 1, times: 0 }] }), line("heard 0 0\n")),
+        (Command::Listen(Listen { room: 261, runs: vec![] }), line("heard 36 0 0 0\n")),
+        (Command::Listen(Listen { room: 262, runs: vec![Run { sample: 1, times: 0 }] }), line("heard 0 0 0 0\n")),
         (Command::OpenReader(2), line("reader 1\n")),
     ]
 }
@@ -152,10 +152,10 @@ pub(super) fn no_errors() -> Vec<Small> {
     ];
     let mut all: Vec<Small> = bytes.map(shown).into();
     let at_the_limit = [
-        (many_runs(MOST_RUNS, 8), "heard 0 24000\n"),
-        (many_runs(MOST_RUNS, 0), "heard 0 0\n"),
-        (many_samples(MOST_SAMPLES), "heard 0 24000\n"),
-        (Listen { room: 0, ..many_samples(1) }, "heard 36 0\n"),
+        (many_runs(MOST_RUNS, 8), "heard 0 24000 0 0\n"),
+        (many_runs(MOST_RUNS, 0), "heard 0 0 0 0\n"),
+        (many_samples(MOST_SAMPLES), "heard 0 24000 0 0\n"),
+        (Listen { room: 0, ..many_samples(1) }, "heard 36 0 0 0\n"),
     ];
     for (listen, line) in at_the_limit {
         let script = [b"H\x01".to_vec(), bytes_of(&Command::Listen(listen))].concat();

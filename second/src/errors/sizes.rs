@@ -35,15 +35,15 @@ pub(super) fn at_the_limit() -> Vec<Small> {
     let untouched = format!("write 12 0 {}\n", "a5".repeat(LIMIT));
     let too_long = Encode { frame: vec![0; LIMIT], room: 0, ..encode() };
     let all_room = Encode { start: 0, room: LIMIT, ..encode() };
-    let unencoded = format!("encode 24 0 {}\n", "a5".repeat(LIMIT));
+    let unencoded = format!("encode 24 0 {} 0 0\n", "a5".repeat(LIMIT));
     let refused = [
         (Command::checksum(2, &[0; LIMIT]), "checksum 1 0\n"),
-        (Command::read(0, &[0; LIMIT]), "read 3 -\n"),
+        (Command::read(0, &[0; LIMIT]), "read 3 - 0 0\n"),
         (Command::Bench(vec![0; LIMIT]), "refused 3\n"),
         (Command::Arrived(vec![0; LIMIT]), "event 23\n"),
         (Command::Write(no_room), "write 10 0 -\n"),
         (Command::Write(no_payload), untouched.as_str()),
-        (Command::Encode(too_long), "encode 3 0 -\n"),
+        (Command::Encode(too_long), "encode 3 0 - 0 0\n"),
         (Command::Encode(all_room), unencoded.as_str()),
     ];
     let mut all = Vec::new();

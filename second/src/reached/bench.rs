@@ -23,14 +23,14 @@ impl Reached {
             self.add(format!("a good frame at the front of {} bytes on {}", input.len(), input[0]));
         }
         if let Answer::Bench(Ok(Fields { id, cycle, words, .. })) = answer {
-            let [id, cycle, words] = [*id, (*cycle).into(), (*words).into()].map(digits);
+            let [id, cycle, words] = [u32::from(*id), (*cycle).into(), (*words).into()].map(digits);
             self.add(format!("line with {id}, {cycle} and {words} digits"));
         }
     }
 }
 
 /// How many, none standing for the number 0.
-fn digits(number: u16) -> u32 {
+pub(super) fn digits(number: u32) -> u32 {
     number.checked_ilog10().map_or(0, |highest| highest + 1)
 }
 

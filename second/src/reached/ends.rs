@@ -41,11 +41,12 @@ pub(super) fn required() -> Vec<String> {
         format!("'V' ends by PhaseAbove at {PHASE}"),
         // Letter, channel, start, size (2), a frame of 8 bytes and all but the last byte of the room.
         "'E' ends by EndInside at <0..13>".to_string(),
-        // Right before the mark and inside it. In `K` the pairs of both lists follow: the places are those before and inside
-        // the first and the last one, and in each of the others before it and inside both of its marks.
+        // Right before the mark and inside it. In `T` both checksums follow, and in `K` the pairs of both lists: the places
+        // are those before and inside the first and the last one, and in each of the others before it and inside both of
+        // its marks.
         "'L' ends by EndInside at <45..48>".to_string(),
         "'S' ends by EndInside at <49..52>".to_string(),
-        "'T' ends by EndInside at <59..62>".to_string(),
+        "'T' ends by EndInside at <59..70>".to_string(),
         "'K' ends by EndInside at <385..396|621..628>".to_string(),
         format!(
             "'K' ends by EndInside at <{}>",

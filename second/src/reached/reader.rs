@@ -5,6 +5,7 @@ use super::stays::{Origin, Subject};
 use super::Reached;
 use crate::answer::Answer;
 use crate::channel::Channel;
+use crate::checksum_pair::ChecksumPair;
 use crate::decoder::{Phase, Told};
 use crate::frame::{self, LARGEST_FRAME, SMALLEST_FRAME};
 use crate::reader::{Reader, IDLE_SAMPLES};
@@ -73,12 +74,14 @@ impl Reached {
         self.add_unlooked_of_reader();
         let samples = listen.samples();
         self.add_changed_stream(&samples);
-        self.walk(&samples);
+        let walked = self.walk(&samples);
+        self.check_heard(calls, &walked);
     }
 
-    /// The same samples again, one by one, with what each bit finds.
-    fn walk(&mut self, samples: &[u8]) {
+    /// The same samples again, one by one, with what each bit finds. What errors tell comes back.
+    fn walk(&mut self, samples: &[u8]) -> Vec<(u8, ChecksumPair)> {
         let (mut reader, mut memory) = (self.held.reader, self.held.memory.clone());
+        let mut errors = Vec::new();
         for sample in samples {
             let before = reader;
             let told = reader.take(*sample, &mut memory);
@@ -92,11 +95,15 @@ impl Reached {
             match told {
                 Told::Nothing => (),
                 Told::Frame(..) => self.behind.told = "a frame",
-                Told::Error(error) => self.add_error(&before, error, &memory),
+                Told::Error(error) => {
+                    self.add_error(&before, error.refusal, &memory);
+                    errors.push(self.add_heard_checksums(&before, error.number(), &memory));
+                }
             }
         }
         self.behind.samples.extend(samples);
         self.behind.ends.push(self.behind.samples.len());
+        errors
     }
 
     fn add_bit(&mut self, before: &Reader, high: bool) {

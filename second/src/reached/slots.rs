@@ -28,12 +28,14 @@ impl Reached {
         self.put_status = None;
         self.history.clear();
         self.frames = Frames::default();
+        self.begin_arrivals(StatusNumbers::default());
     }
 
     pub(super) fn add_put_status(&mut self, numbers: &StatusNumbers) {
         self.status_from = Origin::Put;
         self.put_status = Some(*numbers);
         self.frames = Frames::put_with(&numbers.status());
+        self.begin_arrivals(numbers.looked_at());
     }
 
     pub(super) fn add_event(&mut self, command: &Command, answer: &Answer) {

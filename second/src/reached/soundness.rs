@@ -1,10 +1,12 @@
 //! The clauses of sound states, part by part: what was wrong with a state that was refused, what was right with others.
 
+use super::both_checksums::look;
 use super::choices::any;
 use super::reader_soundness::of_reader;
 use super::second_frames::MISSED;
 use super::Reached;
 use crate::answer::Answer;
+use crate::checksum_pair::ChecksumPair;
 use crate::clock::ClockState;
 use crate::faults::{WRONG_CYCLES, WRONG_IDS};
 use crate::frame::{Fields, HIGHEST_CYCLE, HIGHEST_ID, MOST_WORDS};
@@ -30,8 +32,10 @@ fn of_settings(settings: &Settings) -> Parts {
 
 fn of_status(status: &SlotStatus) -> Parts {
     let (kind, reason, kept) = (Kind::of(status), status.reason, status.kept.is_some());
-    let [content_error, valid] = [Mark::ContentError, Mark::Valid].map(|mark| status.marks.has(mark));
+    let [syntax_error, content_error, valid] =
+        [Mark::SyntaxError, Mark::ContentError, Mark::Valid].map(|mark| status.marks.has(mark));
     let (slot, cycle, marks) = (status.slot, status.cycle, status.marks.number());
+    let (look, ChecksumPair { found, expected }) = (look(status.checksums), status.checksums);
     let mut parts = of_settings(&status.settings);
     parts.extend([
         (format!("slot {slot}"), (1..=HIGHEST_ID).contains(&slot)),
@@ -39,6 +43,7 @@ fn of_status(status: &SlotStatus) -> Parts {
         (format!("{kind:?} content error: {content_error}, {reason:?}"), content_error == reason.is_some()),
         (format!("{kind:?} valid: {valid}, kept: {kept}"), valid == kept),
         (format!("{kind:?} {reason:?} beside valid: {valid}"), valid || reason != Some(Reason::SecondGoodFrame)),
+        (format!("checksums {look}, syntax error: {syntax_error}"), syntax_error || found == 0 && expected == 0),
         (format!("marks {marks}"), with_conflict(marks) == marks),
     ]);
     parts.extend(status.kept.iter().flat_map(|kept| of_kept(status, kept)));

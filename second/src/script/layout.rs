@@ -1,9 +1,11 @@
 //! The parts of every command in their order, told once: for taking them from a script and for adding them to one.
 
 use super::{
-    Broken, Cause, Command, Encode, Listen, OnChannel, Opening, Run, Write, LIMIT, MEMORY, MOST_RUNS, MOST_SAMPLES,
+    Broken, Cause, Command, Encode, Letters, Listen, OnChannel, Opening, Run, Write, LIMIT, MEMORY, MOST_RUNS,
+    MOST_SAMPLES,
 };
 use crate::channel::Channel;
+use crate::checksum_pair::ChecksumPair;
 use crate::clock::Times;
 use crate::clock_numbers::{ClockNumbers, ListNumbers, RowNumbers};
 use crate::closing::Controls;
@@ -144,7 +146,13 @@ trait Way {
         self.forbid(status.reason > LAST_REASON, Cause::ReasonAbove)?;
         self.switch(&mut status.kept)?;
         self.header(&mut status.header)?;
-        self.mark(&mut status.settings.mark)
+        self.mark(&mut status.settings.mark)?;
+        self.checksums(&mut status.checksums)
+    }
+
+    fn checksums(&mut self, checksums: &mut ChecksumPair) -> Done {
+        self.long(&mut checksums.found)?;
+        self.long(&mut checksums.expected)
     }
 
     fn header(&mut self, header: &mut HeaderNumbers) -> Done {
@@ -268,6 +276,7 @@ impl Command {
 /// The part of a script that is still to be played.
 pub struct Rest<'a> {
     bytes: &'a [u8],
+    letters: Letters,
 }
 
 /// Taking apart.
@@ -286,8 +295,8 @@ impl Way for Rest<'_> {
 }
 
 impl<'a> Rest<'a> {
-    pub fn of(script: &'a [u8]) -> Rest<'a> {
-        Rest { bytes: script }
+    pub fn of(script: &'a [u8], letters: Letters) -> Rest<'a> {
+        Rest { bytes: script, letters }
     }
 
     pub fn is_empty(&self) -> bool {
@@ -307,7 +316,8 @@ impl<'a> Rest<'a> {
     fn take_whole(&mut self) -> Result<Command, Cause> {
         let mut letter = 0;
         self.byte(&mut letter)?;
-        let mut command = Command::blank(letter.into()).ok_or(Cause::UnknownLetter)?;
+        let known = Command::blank(letter.into()).filter(|command| self.letters.know(command.letter()));
+        let mut command = known.ok_or(Cause::UnknownLetter)?;
         self.command(&mut command)?;
         Ok(command)
     }

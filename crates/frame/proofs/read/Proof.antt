@@ -3,12 +3,11 @@ use mathlib.Core.Path.{_≡_, sym, ap, _∙_}
 use Prim.Native.Nat.{ℕ}
 use mathlib.Core.Bool.{true}
 use denote.Ref.{now}
-use Rattle.refusal.specs.Refusal.{first}
 use Rattle.refusal.proofs.FirstLaws.{first-skip, first-here}
 use Rattle.base_types.specs.declared.channel.Channel.{Channel}
-use Rattle.base_types.specs.Channel.{notAChannel}
+use Rattle.base_types.specs.Channel.{notAChannel, channelOf}
 use Rattle.base_types.proofs.ChannelLaws.{named-is, named-not}
-use Rattle.frame.specs.Read.{told, refusalsOn, tells, ruleOn}
+use Rattle.frame.specs.Read.{told, tells, ruleOn}
 use borrow.Author.Needs.{needs}
 use Rattle.frame.proofs.read.Statement.{statement}
 use Rattle.frame.proofs.read.Tie as tie
@@ -18,7 +17,7 @@ returns c =
     let s : tie.Start = search needs in
     let n : tie.After-named = search needs in
     let e : notAChannel (s .args .channel) ≡ true = named-not (s .args .channel) (sym (n .named .ensures) ∙ c .enum-told .given .1) in
-    ap (λ (n : ℕ). tells n (now (s .args .bytes))) (sym (first-here 1 _ e))
+    ap (λ (n : ℕ). tells n (channelOf (s .args .channel)) (now (s .args .bytes))) (sym (first-here 1 _ e))
 
 returns-2 : tie.Need-returns-2
 returns-2 c =
@@ -28,7 +27,8 @@ returns-2 c =
     let bytes = now (s .args .bytes) in
     let e = named-is (s .args .channel) (k .named2 .given .0 .0) (sym (n .named .ensures) ∙ k .named2 .given .1) in
     let says : told (c .read-on .result) ≡ ruleOn (k .named2 .given .0 .0) bytes = c .read-on .ensures in
-    says ∙ ap (λ (n : ℕ). tells n bytes) (ap (λ (k : Channel). first (refusalsOn k bytes)) (sym (e .1)) ∙ sym (first-skip 1 _ (e .0)))
+    says ∙ ap (λ (k : Channel). ruleOn k bytes) (sym (e .1))
+    ∙ ap (λ (n : ℕ). tells n (channelOf (s .args .channel)) bytes) (sym (first-skip 1 _ (e .0)))
 
 pub read-spec : {M : Type 1} → statement M
 read-spec =

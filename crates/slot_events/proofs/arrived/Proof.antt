@@ -23,12 +23,13 @@ returns-2 c =
     let test : tie.Else1 = search needs in
     let read : tie.After-read-on = search needs in
     let refused : tie.At-match-keys2 = search needs in
+    let told : tie.After-checksums = search needs in
     let status = s .args .status in
     let bytes = now (s .args .bytes) in
     let brings = brings-refusal (placeOf status) bytes (read .«read-on» .result) (read .«read-on» .ensures)
     (not-accepted (read .«read-on» .result) (refused .match .keys2)) in
     recorded-so status (arrival bytes) (test .before .«is-sound» .ensures) (test .if1 .left) (c .recorded .ensures)
-    (rw (brings, c .before .«with-arrival» .ensures))
+    (rw (brings, c .before .«with-refused» .ensures, told .checksums .ensures))
 
 returns-3 : tie.Need-returns-3
 returns-3 c =
@@ -47,7 +48,7 @@ returns-3 c =
     recorded-so status (arrival bytes) (test .before .«is-sound» .ensures) (test .if1 .left) (c .recorded2 .ensures)
     (rw (
       brings-frame (placeOf status) bytes header says,
-      c .before .«with-arrival2» .ensures,
+      c .before .«with-accepted» .ensures,
       reason .reason .ensures,
       kept .«kept-by» .ensures,
       missed .«first-miss» .ensures,
@@ -58,5 +59,5 @@ arrived-spec =
     tie.close
     (tie.spec
     (λ c κs. search needs) (λ c κs. search needs) returns
-    (λ c κs. search needs) (λ c. search needs) (λ c κs. search needs) (λ c κs. search needs) returns-2
+    (λ c κs. search needs) (λ c. search needs) (λ c κs. search needs) (λ c κs. search needs) (λ c κs. search needs) returns-2
     (λ c κs. search needs) (λ c κs. search needs) (λ c κs. search needs) (λ c κs. search needs) (λ c κs. search needs) returns-3)

@@ -146,7 +146,7 @@ fn add_unsound_statuses(plan: &mut Plan, random: &mut Random) {
     }
 }
 
-const UNSOUND_STATUSES: u8 = 17;
+const UNSOUND_STATUSES: u8 = 19;
 
 fn unsound_status(random: &mut Random, sound: &StatusNumbers, change: u8) -> StatusNumbers {
     let mut changed = *sound;
@@ -167,6 +167,9 @@ fn unsound_status(random: &mut Random, sound: &StatusNumbers, change: u8) -> Sta
         13 => (changed.slot, changed.header.id) = (HIGHEST_ID + 1, HIGHEST_ID + 1),
         14 => (changed.cycle, changed.header.cycle) = (HIGHEST_CYCLE + 1, HIGHEST_CYCLE + 1),
         15 => changed.header.flags = 0b10100,
+        // 02 C-18: checksums without "syntax error".
+        16 => changed.checksums.found = 0x69F,
+        17 => changed.checksums.expected = 0x69F,
         // The slot is dynamic then, where no sync frame can be kept.
         _ => changed.settings = sound.settings.with_field(STATIC_SLOTS, 44),
     }

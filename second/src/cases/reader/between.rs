@@ -61,9 +61,9 @@ fn add_others_stay(plan: &mut Plan, random: &mut Random, channel: Channel) {
     open(plan, channel);
     hear(plan, &samples::short_stream(channel), &[0]);
     hear(plan, &samples::behind_idle(3, &[0; 8]), &[4]);
-    plan.add(Command::Listen(Listen::default()), Expected::line("heard 36 0"));
+    plan.add(Command::Listen(Listen::default()), Expected::line("heard 36 0 0 0"));
     put(plan, &ReaderNumbers::default());
-    plan.add(Command::listen(&[1]), Expected::line("heard 23 0"));
+    plan.add(Command::listen(&[1]), Expected::line("heard 23 0 0 0"));
     plan.add(Command::OpenReader(9), Expected::line("reader 1"));
     plan.add(Command::ShowReader, Expected::Reader(ReaderNumbers::default()));
     history::show(plan, &status);

@@ -50,7 +50,7 @@ fn add_frames(plan: &mut Plan, channel: Channel, frames: &[(usize, u8, Draft)]) 
         lines.push(line_of(given - taken, draft));
         taken = given;
     }
-    lines.push("heard 0 9".to_string());
+    lines.push("heard 0 9 0 0".to_string());
     open(plan, channel);
     plan.add(Command::listen(&piece), Expected::Line(lines.join("\n")));
 }
@@ -74,7 +74,7 @@ fn add_other_channel(plan: &mut Plan, channel: Channel) {
 
 fn add_high_samples(plan: &mut Plan, channel: Channel) {
     let stream = samples::short_stream(channel);
-    let line = format!("{}\nheard 0 9", line_of(767, &listed(&SHORT, channel)));
+    let line = format!("{}\nheard 0 9 0 0", line_of(767, &listed(&SHORT, channel)));
     for high in HIGH_SAMPLES {
         let other: Vec<u8> = stream.iter().map(|sample| sample * high).collect();
         open(plan, channel);
@@ -88,7 +88,7 @@ fn add_high_samples(plan: &mut Plan, channel: Channel) {
 /// However the piece is made of runs, none of them or some without a sample.
 fn add_runs(plan: &mut Plan, random: &mut Random, channel: Channel) {
     let stream = samples::short_stream(channel);
-    let line = format!("{}\nheard 0 9", line_of(767, &listed(&SHORT, channel)));
+    let line = format!("{}\nheard 0 9 0 0", line_of(767, &listed(&SHORT, channel)));
     let singles: Vec<Run> = stream.iter().map(|sample| Run { sample: *sample, times: 1 }).collect();
     let none = |random: &mut Random| Run { sample: random.below(256) as u8, times: 0 };
     let with_none = samples::runs(&stream).into_iter().flat_map(|run| [none(random), run]).collect();

@@ -28,7 +28,7 @@ fn add_zeros(plan: &mut Plan) {
     let zeros = ReaderNumbers::default();
     show(plan, &zeros);
     for (room, samples) in [(MEMORY, &[][..]), (MEMORY, &[1, 1, 1, 1, 1, 0]), (LARGEST_FRAME - 1, &[]), (0, &[1])] {
-        plan.add(listen_in(room, samples), Expected::line("heard 23 0"));
+        plan.add(listen_in(room, samples), Expected::line("heard 23 0 0 0"));
         show(plan, &zeros);
     }
 }
@@ -55,8 +55,8 @@ fn add_rooms(plan: &mut Plan, channel: Channel) {
     for (place, room) in [LARGEST_FRAME, LARGEST_FRAME + 1, MEMORY - 1, MEMORY].into_iter().enumerate() {
         let heard = 194 * place;
         for short in [0, 1, 8, LARGEST_FRAME - 1] {
-            plan.add(listen_in(short, &stream[heard..heard + 9]), Expected::line("heard 36 0"));
-            plan.add(listen_in(short, &[]), Expected::line("heard 36 0"));
+            plan.add(listen_in(short, &stream[heard..heard + 9]), Expected::line("heard 36 0 0 0"));
+            plan.add(listen_in(short, &[]), Expected::line("heard 36 0 0 0"));
         }
         show(plan, &behind(channel, &stream[..heard]));
         let told = if place == 3 { vec![0] } else { vec![] };

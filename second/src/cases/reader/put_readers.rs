@@ -13,7 +13,7 @@ use crate::script::Command;
 use Next::{Phase, Told};
 
 /// Strobes a low bit with the next sample, if that is low.
-const READY: ReaderNumbers = ReaderNumbers { counter: 5, ..phases::LOW };
+pub(super) const READY: ReaderNumbers = ReaderNumbers { counter: 5, ..phases::LOW };
 
 pub fn add(plan: &mut Plan) {
     add_bit_clocks(plan);

@@ -16,6 +16,6 @@ pub fn add(plan: &mut Plan, random: &mut Random) {
         let stream = samples::behind_idle(words % 15 + 1, &draft.bytes());
         let line = line_of(stream.len() - 9, &draft);
         open(plan, channel);
-        plan.add(Command::listen(&stream), Expected::Line(format!("{line}\nheard 0 9")));
+        plan.add(Command::listen(&stream), Expected::Line(format!("{line}\nheard 0 9 0 0")));
     }
 }

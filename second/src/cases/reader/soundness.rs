@@ -37,7 +37,7 @@ pub fn add(plan: &mut Plan) {
     readers.extend([BYTE_START_HIGH, BYTE_START_LOW, BYTE, END_LOW].into_iter().flat_map(times));
     for (place, (sound, numbers)) in readers.into_iter().enumerate() {
         let numbers = ReaderNumbers { channel: Channel::BOTH[place % 2], ..numbers };
-        let line = if sound { "heard 0 0" } else { "heard 23 0" };
+        let line = if sound { "heard 0 0 0 0" } else { "heard 23 0 0 0" };
         put(plan, &numbers);
         plan.add(Command::listen(&[]), Expected::line(line));
         show(plan, &numbers);

@@ -1,7 +1,8 @@
--- The six clauses in their order: each return has those before it.
+-- The clauses in their order: each return has those before it.
 use mathlib.Core.Path.{_≡_, sym, ap, _∙_}
 use mathlib.Core.Bool.{Bool, true, false, Bool·beq, not, _&&_}
 use borrow.Author.Tests.{not-true, not-false}
+use Rattle.checksum.specs.Pair.{isNone}
 use Rattle.slot.specs.declared.status.Status.{Status}
 use Rattle.slot.specs.Judging.{placeOf, isReason, isSecondGoodFrame, isFrame}
 use Rattle.slot.specs.Sound.{wouldOpen, keepsWell, exactlyWith, onlyWith}
@@ -27,9 +28,21 @@ not-without false v e = ap (λ (b : Bool). onlyWith b v) (sym e)
 abbrev given : tie.Start → Status
 given s = s .args .status
 
--- the first test is far from the last return: it is found by way of the fourth
+-- the first tests are far from the last return: they are found by way of the fifth and the fourth
+abbrev fourth : tie.Else5 → tie.Else4
+fourth c = search needs
+
+abbrev third : tie.Else4 → tie.Else3
+third c = search needs
+
+abbrev second-test : tie.Else4 → tie.Else2
+second-test c = search needs
+
 abbrev first : tie.Else4 → tie.Else1
 first c = search needs
+
+abbrev entry : tie.Else4 → tie.Start
+entry c = search needs
 
 opens : (c : tie.Else1) → wouldOpen (placeOf (given (search needs))) ≡ true
 opens c = sym (c .before .«would-open» .ensures) ∙ not-false _ (c .if1 .left)
@@ -65,6 +78,16 @@ second-asked c = not-without (c .«is-second-good-frame» .result) (given (searc
 second : (c : tie.Else5) → withValid (given (search needs)) ≡ true
 second c = second-asked (search needs) ∙ ap not (c .if5 .left)
 
+abbrev withSyntax : Status → Bool
+withSyntax s = onlyWith (not (isNone (s .checksums))) (s .«syntax_error»)
+
+checksums-asked : (c : tie.After-is-none)
+    → let s = given (search needs) in withSyntax s ≡ not (not (c .«is-none» .result) && not (s .«syntax_error»))
+checksums-asked c = not-without (not (c .«is-none» .result)) (given (search needs) .«syntax_error») (ap not (c .«is-none» .ensures))
+
+checksums : (c : tie.Else6) → withSyntax (given (search needs)) ≡ true
+checksums c = checksums-asked (search needs) ∙ ap not (c .if6 .left)
+
 -- ---- each return
 
 returns : tie.Need-returns
@@ -92,16 +115,30 @@ returns-5 c =
 
 returns-6 : tie.Need-returns-6
 returns-6 c =
-    let s = given (search needs) in
-    let arrived : tie.After-has-arrival = search needs in
-    let both = ap (_&&_ (s .«own_sending»)) (arrived .«has-arrival» .ensures) in
+    let kept : tie.Else4 = search needs in
     rw (
-      opens (first (search needs)),
+      opens (first kept),
       content (search needs),
       valid (search needs),
-      keeps (search needs),
+      keeps kept,
       second (search needs),
-      stands-with (s .conflict) both,
+      checksums-asked (search needs) ∙ ap not (c .if6 .taken),
+    )
+
+returns-7 : tie.Need-returns-7
+returns-7 c =
+    let arrived : tie.After-has-arrival = search needs in
+    let fifth : tie.Else5 = search needs in
+    let kept = fourth fifth in
+    let s = given (entry kept) in
+    rw (
+      opens (first kept),
+      content (second-test kept),
+      valid (third kept),
+      keeps kept,
+      second fifth,
+      checksums (search needs),
+      stands-with (s .conflict) (ap (_&&_ (s .«own_sending»)) (arrived .«has-arrival» .ensures)),
     )
 
 pub is-sound-spec : {M : Type 1} → statement M
@@ -113,4 +150,5 @@ is-sound-spec =
     (λ c κs. search needs) returns-3
     (λ c κs. search needs) returns-4
     (λ c κs. search needs) returns-5
-    (λ c κs. search needs) returns-6)
+    (λ c κs. search needs) returns-6
+    (λ c κs. search needs) returns-7)

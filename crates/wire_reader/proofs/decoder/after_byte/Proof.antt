@@ -7,16 +7,17 @@ use mathlib.Core.List.{List}
 use Prim.Native.Nat.{ℕ, _+_, _*_}
 use native.Mathlib.Omega.{arith}
 use denote.Ref.{now}
-use lib.Dec.{eqb, leb}
+use lib.Dec.{leb}
 use lib.ListN.{length, take}
 use lib.Seq.{length-take-le}
 use Rattle.division.specs.Bits.{bits}
 use Rattle.lent_bytes.proofs.NumberLaws.{number-in-all}
 use Rattle.header.specs.declared.Header.{Header}
-use Rattle.header.specs.Layout.{headerIn, headerChecksumOf}
-use Rattle.frame.specs.Refusals.{headerChecksumDiffers}
+use Rattle.header.specs.Layout.{headerIn, headerChecksums}
+use Rattle.checksum.specs.Pair.{differ}
 use Rattle.frame.specs.Read.{headerRead}
 use Rattle.frame.proofs.ReadLaws.{header-of-number}
+use Rattle.wire_reader.specs.declared.decoder.After.the-variants as after
 use Rattle.wire_reader.proofs.AfterLaws.{fewer-than-5, five-wrong, five-right, more-than-5}
 use Rattle.wire_reader.proofs.decoder.after_byte.Statement.{statement}
 use Rattle.wire_reader.proofs.decoder.after_byte.Tie as tie
@@ -36,24 +37,23 @@ header-is c =
     c .unpacked .ensures ∙ ap (λ (n : ℕ). headerIn (bits 40 n)) (c .before .number-in .ensures ∙ number-in-all (take 5 bytes) (omega arith))
     ∙ header-of-number bytes (omega arith)
 
-due-is : (c : tie.After-checksum-of) → let u : tie.After-unpacked = search needs in c .checksum-of .result ≡ headerChecksumOf (u .unpacked .result)
-due-is c = let u : tie.After-unpacked = search needs in c .checksum-of .ensures ∙ ap headerChecksumOf (sym (u .unpacked .ensures))
+pair-is : (c : tie.After-checksums-of) → c .checksums-of .result ≡ headerChecksums (headerRead (bytesIn (search needs)))
+pair-is c =
+    let u : tie.After-unpacked = search needs in
+    c .checksums-of .ensures ∙ ap headerChecksums (sym (u .unpacked .ensures) ∙ header-is u)
 
 returns-2 : tie.Need-returns-2
 returns-2 c =
-    let k : tie.After-checksum-of = search needs in
-    let u : tie.After-unpacked = search needs in
+    let k : tie.After-checksums-of = search needs in
     let bytes = bytesIn (search needs) in
-    five-wrong bytes (search needs)
-    (ap headerChecksumDiffers (sym (header-is u)) ∙ ap (λ (n : ℕ). not (eqb (u .unpacked .result .checksum) n)) (sym (due-is k)) ∙ ap not (ne-eqb _ _ (c .if3 .taken)))
+    ap after.HeaderWrong (pair-is k)
+    ∙ five-wrong bytes (search needs) (ap differ (sym (pair-is k)) ∙ ap not (ne-eqb _ _ (c .if3 .taken)))
 
 returns-3 : tie.Need-returns-3
 returns-3 c =
-    let k : tie.After-checksum-of = search needs in
-    let u : tie.After-unpacked = search needs in
+    let k : tie.After-checksums-of = search needs in
     let bytes = bytesIn (search needs) in
-    five-right bytes (search needs)
-    (ap headerChecksumDiffers (sym (header-is u)) ∙ ap (λ (n : ℕ). not (eqb (u .unpacked .result .checksum) n)) (sym (due-is k)) ∙ ap not (eq-eqb _ _ (c .if3 .left)))
+    five-right bytes (search needs) (ap differ (sym (pair-is k)) ∙ ap not (eq-eqb _ _ (c .if3 .left)))
 
 returns-4 : tie.Need-returns-4
 returns-4 c =

@@ -33,8 +33,9 @@ returns : tie.Need-returns
 returns c =
     let e : tie.After-after-byte = search needs in
     let s : tie.Start = search needs in
+    let wrong : tie.After-checksums = search needs in
     ap (λ r. decodedBy r (withByte s)) (c .failed .ensures)
-    ∙ ap (λ (b : After). behindBy b (s .args .count + 1) (s .args .since) (withByte s)) (sym (c .before .enum-told .given .1))
+    ∙ ap (λ (b : After). behindBy b (s .args .count + 1) (s .args .since) (withByte s)) (sym (wrong .checksums .given .1))
     ∙ said e
 
 returns-2 : tie.Need-returns-2
@@ -42,7 +43,7 @@ returns-2 c =
     let e : tie.After-after-byte = search needs in
     let s : tie.Start = search needs in
     ap (λ r. decodedBy r (withByte s)) (c .moved .ensures)
-    ∙ ap (λ (b : After). behindBy b (s .args .count + 1) (s .args .since) (withByte s)) (sym (c .before .enum-told2 .given .1))
+    ∙ ap (λ (b : After). behindBy b (s .args .count + 1) (s .args .since) (withByte s)) (sym (c .before .enum-told .given .1))
     ∙ said e
 
 returns-3 : tie.Need-returns-3
@@ -50,7 +51,7 @@ returns-3 c =
     let e : tie.After-after-byte = search needs in
     let s : tie.Start = search needs in
     ap (λ r. decodedBy r (withByte s)) (c .moved2 .ensures)
-    ∙ ap (λ (b : After). behindBy b (s .args .count + 1) (s .args .since) (withByte s)) (sym (c .before .enum-told3 .given .1))
+    ∙ ap (λ (b : After). behindBy b (s .args .count + 1) (s .args .since) (withByte s)) (sym (c .before .enum-told2 .given .1))
     ∙ said e
 
 pub end-byte-spec : {M : Type 1} → statement M

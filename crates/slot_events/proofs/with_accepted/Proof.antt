@@ -1,9 +1,9 @@
--- Each field is what an arrival leaves of it.
+-- Each field is what a frame leaves of it.
 use mathlib.Core.Path.{_≡_}
 use Rattle.slot.specs.Judging.{isReason, isFrame, firstReason, firstKept}
 use borrow.Author.Needs.{needs}
-use Rattle.slot_events.proofs.with_arrival.Statement.{statement}
-use Rattle.slot_events.proofs.with_arrival.Tie as tie
+use Rattle.slot_events.proofs.with_accepted.Statement.{statement}
+use Rattle.slot_events.proofs.with_accepted.Tie as tie
 
 -- (What each call gave is written out, so that another is refused here.)
 returns : tie.Need-returns
@@ -20,7 +20,7 @@ returns c =
     let kept : c .«or-later2» .result ≡ firstKept (s .args .status .kept) (s .args .kept) = c .«or-later2» .ensures in
     rw (← in-slot .«reason-in» .ensures, ← content, ← reason, ← kept, ← valid)
 
-pub with-arrival-spec : {M : Type 1} → statement M
-with-arrival-spec =
+pub with-accepted-spec : {M : Type 1} → statement M
+with-accepted-spec =
     tie.close
     (tie.spec (λ c κs. search needs) (λ c κs. search needs) (λ c κs. search needs) (λ c κs. search needs) (λ c κs. search needs) returns)
