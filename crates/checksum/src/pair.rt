@@ -22,7 +22,7 @@ impl ChecksumPair {
         ChecksumPair::NONE
     }
 
-    // 0 for both. No pair that differs is.
+    // 0 for both, which two that differ never are.
     pub fn is_none(self) -> bool
         ensures { λ r. ⌜ r ≡ isNone self ⌝ }
     {
