@@ -59,13 +59,21 @@ impl Reached {
             }
             (Command::Arrived(bytes), Answer::Event(Ok(()))) => self.add_arrived_bytes(bytes),
             (Command::Show, Answer::Shown(_, status)) => self.add_shown_checksums(status),
-            (Command::Measure(_), _) => {
-                let syntax_error = self.held.status.marks.has(Mark::SyntaxError);
-                let (look, number) = (look(self.held.status.checksums), answer.number());
-                self.add_of('M', format!("M with checksums {look}, syntax error: {syntax_error}: {number}"));
-            }
+            (Command::Measure(_), _) => self.add_measured_checksums(answer.number()),
             _ => (),
         }
+    }
+
+    /// Of a status that was put what it has, and of one that was opened what arrived.
+    fn add_measured_checksums(&mut self, number: u8) {
+        let status = &self.held.status;
+        let (channel, syntax_error) = (status.channel, status.marks.has(Mark::SyntaxError));
+        let (look, arrived) = (look(status.checksums), self.arrivals.names.join(", "));
+        let what = match self.status_from {
+            Origin::Opened => format!("behind [{arrived}]"),
+            _ => format!("with checksums {look}, syntax error: {syntax_error}"),
+        };
+        self.add_of('M', format!("M on {channel:?} {what}: {number}"));
     }
 
     fn add_refused_bytes(&mut self, letter: char, channel: u8, bytes: &[u8], answer: &Answer) {
@@ -92,10 +100,10 @@ impl Reached {
     /// Which checksums are wrong beside a number that tells nothing of them. Too few bytes have none.
     fn add_silent(&mut self, letter: char, number: u8, channel: u8, bytes: &[u8]) {
         if bytes.len() < SMALLEST_FRAME {
-            return self.add(format!("{letter} tells nothing beside {number}"));
+            return self.add(format!("{letter} tells nothing beside {number} on {channel}"));
         }
         let wrong = [of_header(&bytes[..HEADER_BYTES]), of_trailer(channel, bytes)].map(ChecksumPair::differs);
-        self.add(format!("{letter} tells nothing beside {number}, header and trailer wrong: {wrong:?}"));
+        self.add(format!("{letter} tells nothing beside {number} on {channel}, header and trailer wrong: {wrong:?}"));
     }
 
     pub(super) fn begin_arrivals(&mut self, before: StatusNumbers) {

@@ -1,6 +1,7 @@
 //! What a script must reach of checksums that are told and kept.
 
 use crate::cases::{OF_HEADER, OF_TRAILER, WRONG_CHECKSUM_SIZES};
+use crate::draft::FOREIGN_CHANNELS;
 use crate::frame::{HEADER_BYTES, LARGEST_FRAME, SMALLEST_FRAME};
 use crate::reached::choices::any;
 
@@ -9,13 +10,15 @@ const LOOKS: &str = "found alone|expected alone|equal|different";
 
 /// By these letters 4 and 8 of frames of every size and with numbers of every length, and nothing beside the others.
 pub(in crate::reached) fn of_frames(letters: &str) -> Vec<String> {
-    let (sizes, nothing) = (any(WRONG_CHECKSUM_SIZES), format!("<{letters}> tells nothing beside"));
+    let (sizes, foreign) = (any(WRONG_CHECKSUM_SIZES), any(FOREIGN_CHANNELS));
+    let nothing = format!("<{letters}> tells nothing beside");
     let mut all = vec![
         format!("<{letters}> tells <4|8> of <{sizes}> bytes on <0|1>"),
-        format!("{nothing} <0|1|3|5|6|7>, header and trailer wrong: [false, false]"),
-        format!("{nothing} <1|3>, header and trailer wrong: <[true, false]|[false, true]|[true, true]>"),
-        format!("{nothing} <5|6|7>, header and trailer wrong: [false, true]"),
-        format!("{nothing} <1|2>"),
+        format!("{nothing} <0|3|5|6|7> on <0|1>, header and trailer wrong: [false, false]"),
+        format!("{nothing} 3 on <0|1>, header and trailer wrong: <[true, false]|[false, true]|[true, true]>"),
+        format!("{nothing} <5|6|7> on <0|1>, header and trailer wrong: [false, true]"),
+        format!("{nothing} 1 on <{foreign}>, header and trailer wrong: <[true, false]|[false, true]|[true, true]>"),
+        format!("{nothing} <1 on 2|1 on 255|2 on 0|2 on 1>"),
         // "refused 8", two numbers of eight digits, the blanks before them, and the line feed.
         "bench line of 28 bytes".to_string(),
     ];
@@ -29,7 +32,7 @@ pub(in crate::reached) fn of_frames(letters: &str) -> Vec<String> {
 
 pub(in crate::reached) fn required() -> Vec<String> {
     let mut all = of_frames("R|P|E");
-    all.push("E tells nothing beside <24|25>, header and trailer wrong: [false, false]".to_string());
+    all.push("E tells nothing beside <24|25> on <0|1>, header and trailer wrong: [false, false]".to_string());
     all.extend(of_slots());
     all.extend(of_soundness());
     all.extend(of_wire());
@@ -66,8 +69,9 @@ fn of_soundness() -> Vec<String> {
         format!("<A|B|X|M> unsound by checksums <{LOOKS}>, syntax error: false"),
         format!("<A|B|X> sound with checksums <none|{LOOKS}>, syntax error: true"),
         "<A|B|X> sound with checksums none, syntax error: false".to_string(),
-        format!("M with checksums <{LOOKS}>, syntax error: false: 23"),
-        format!("M with checksums <none|{LOOKS}>, syntax error: true: 0"),
+        format!("M on <A|B> with checksums <{LOOKS}>, syntax error: false: 23"),
+        format!("M on <A|B> with checksums <none|{LOOKS}>, syntax error: true: 0"),
+        "M on <A|B> behind [<4|8>, good]: 0".to_string(),
     ]
 }
 
