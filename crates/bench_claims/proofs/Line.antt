@@ -28,8 +28,8 @@ use Rattle.header.specs.declared.Header.{Header}
 use Rattle.header.specs.Layout.{mostPayload, longestFrame, headerChecksums, headerIn}
 use Rattle.header.proofs.HeaderLaws.{field-small}
 use Rattle.frame.specs.Refusals.{tooShort, badSize, frameChecksums}
-use Rattle.frame.specs.Read.{Told, refusedWith, headerRead, trailerRead, refusals, refusalsOn, tells}
-use Rattle.bench_line.specs.Line.{readInput, front, longest, acceptedWord, refusedWord, behindSpace, lineFeed, tellsChecksums, behindNumber, acceptedLine, refusedLine, lineBy, lineOf}
+use Rattle.frame.specs.Read.{Told, refusedWith, headerRead, trailerRead, refusals, refusalsOn, tellsChecksums, tells}
+use Rattle.bench_line.specs.Line.{readInput, front, longest, acceptedWord, refusedWord, behindSpace, lineFeed, behindNumber, acceptedLine, refusedLine, lineBy, lineOf}
 use Rattle.bench_line.specs.Decimal.{decimalWithin}
 use Rattle.bench_claims.specs.Line.{LineOne, NoInput, TooLong, FrontDecides, WithinLongest, FrontExact, LongestExact}
 use Rattle.bench_claims.proofs.Decimal.{decimal-short, decimal-long}

@@ -1,16 +1,16 @@
 -- The line of the bench program: "The bench program reads a channel byte and frame bytes and writes one line".
 use Prim.Native.Nat.{ℕ, _+_}
 use mathlib.Core.Path.{_≡_}
-use mathlib.Core.Bool.{Bool, _||_, cond}
+use mathlib.Core.Bool.{Bool, cond}
 use mathlib.Core.List.{List, [], _∷_, _++_}
 use lib.ListN.{length}
-use lib.Dec.{eqb, ltb}
+use lib.Dec.{ltb}
 use Rattle.header.specs.Layout.{longestFrame}
 use Rattle.refusal.specs.Refusal.{ifAccepted}
 use Rattle.checksum.specs.declared.pair.ChecksumPair.{ChecksumPair}
 use Rattle.header.specs.declared.Header.{Header}
 use Rattle.frame.specs.declared.Reading.{Reading}
-use Rattle.frame.specs.Read.{Told, told, refused, rule}
+use Rattle.frame.specs.Read.{Told, told, refused, tellsChecksums, rule}
 use Rattle.lent_bytes.specs.Over.{over}
 use Rattle.bench_line.specs.Decimal.{decimal}
 
@@ -48,9 +48,6 @@ abbrev pub acceptedLine : Header → List ℕ
 acceptedLine h = acceptedWord ++ behindSpace (h .id .0) ++ behindSpace (h .cycle .0) ++ behindSpace (h .words) ++ lineFeed
 
 -- "refused N FOUND EXPECTED in decimal for these two only" (02, C-18), which are 4 and 8; "refused N" for any other.
-abbrev pub tellsChecksums : ℕ → Bool
-tellsChecksums n = eqb n 4 || eqb n 8
-
 abbrev pub behindNumber : ℕ → ChecksumPair → List ℕ
 behindNumber n checksums = cond (tellsChecksums n) (behindSpace (checksums .found) ++ behindSpace (checksums .expected)) []
 

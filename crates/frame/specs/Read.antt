@@ -1,7 +1,7 @@
 -- The entries `read` and `payload`: what they answer for a channel number and bytes.
 use Prim.Native.Nat.{ℕ, _+_, _-_}
 use mathlib.Core.Path.{_≡_}
-use mathlib.Core.Bool.{cond}
+use mathlib.Core.Bool.{Bool, _||_, cond}
 use mathlib.Core.List.{List, [], _∷_}
 use lib.Dec.{eqb}
 use lib.ListN.{length, take, drop}
@@ -75,6 +75,9 @@ refusals channel bytes = 1 when notAChannel channel ∷ refusalsOn (channelOf ch
 
 -- "Refusals 4 and 8 shall also return the checksum found in the bytes and the one worked out; all other refusals return 0 for both" (02,
 -- C-18).
+abbrev pub tellsChecksums : ℕ → Bool
+tellsChecksums refusal = eqb refusal 4 || eqb refusal 8
+
 abbrev pub checksumsBeside : ℕ → Channel → List ℕ → ChecksumPair
 checksumsBeside refusal channel bytes =
     cond (eqb refusal 4) (headerChecksums (headerRead bytes))

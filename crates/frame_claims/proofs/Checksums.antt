@@ -8,15 +8,17 @@ use native.Mathlib.Omega.{arith}
 use lib.Dec.{eqb}
 use borrow.Author.Tests.{eqb-false, eq-eqb, ne-eqb, not-true}
 use Rattle.numbers.proofs.Truth.{true-both, true-left, true-right}
-use Rattle.numbers.proofs.Walk.{came}
+use Rattle.numbers.proofs.Walk.{cases, came}
 use Rattle.refusal.specs.Refusal.{Line, _when_, first}
-use Rattle.base_types.specs.Channel.{channelOf}
+use Rattle.refusal.proofs.FirstLaws.{first-here, first-skip}
+use Rattle.base_types.specs.declared.channel.Channel.{Channel}
+use Rattle.base_types.specs.Channel.{notAChannel, channelOf}
 use Rattle.checksum.specs.declared.pair.ChecksumPair.{ChecksumPair}
 use Rattle.checksum.specs.Pair.{noChecksums, differ}
 use Rattle.header.specs.Layout.{headerChecksums}
 use Rattle.frame.specs.Refusals.{frameChecksums}
 use Rattle.frame.specs.Read as read
-use Rattle.frame.specs.Read.{headerRead, trailerRead, checksumsBeside, refusals}
+use Rattle.frame.specs.Read.{headerRead, trailerRead, checksumsBeside, refusalsOn}
 use Rattle.frame_claims.specs.Answers.{OfAChecksum, ToldWith, ChecksumsTold}
 
 -- ---- a number of the order tells that its condition holds
@@ -34,36 +36,47 @@ refused-holds (m when false ∷ l) n e = true-right (eqb m (suc n) && false) _ (
 
 -- ---- what is told beside it
 
-differing-pair : (x : ChecksumPair) → differ x ≡ true → x .found ≡ x .expected → ⊥
+pub differing-pair : (x : ChecksumPair) → differ x ≡ true → x .found ≡ x .expected → ⊥
 differing-pair x d = eqb-false (x .found) (x .expected) (not-true (eqb (x .found) (x .expected)) d)
 
-module _ (channel : ℕ) (bytes : List ℕ) where
+-- a number that is neither 4 nor 8 tells none
+silent : (n : ℕ) (channel : Channel) (bytes : List ℕ) → (OfAChecksum n → ⊥) → checksumsBeside n channel bytes ≡ noChecksums
+silent n channel bytes not-these =
+    let header = headerChecksums (headerRead bytes) in
+    let frame = frameChecksums channel bytes (trailerRead bytes) in
+    ap (λ (b : Bool). cond b header (cond (eqb n 8) frame noChecksums)) (ne-eqb n 4 (λ e. not-these (inl e)))
+    ∙ ap (λ (b : Bool). cond b frame noChecksums) (ne-eqb n 8 (λ e. not-these (inr e)))
+
+abbrev Right : Channel → List ℕ → ℕ → Type 0
+Right channel bytes n = ToldWith n (checksumsBeside n channel bytes)
+
+-- of reading on a channel
+module _ (channel : Channel) (bytes : List ℕ) where
   abbrev told : ℕ → ChecksumPair
-  told n = checksumsBeside n (channelOf channel) bytes
+  told n = checksumsBeside n channel bytes
 
   abbrev n : ℕ
-  n = first (refusals channel bytes)
+  n = first (refusalsOn channel bytes)
 
   at-4 : n ≡ 4 → differ (told n) ≡ true
-  at-4 e = ap (λ (k : ℕ). differ (told k)) e ∙ sym (or-false (differ (told 4))) ∙ refused-holds (refusals channel bytes) 3 e
+  at-4 e = ap (λ (k : ℕ). differ (told k)) e ∙ sym (or-false (differ (told 4))) ∙ refused-holds (refusalsOn channel bytes) 3 e
 
   at-8 : n ≡ 8 → differ (told n) ≡ true
-  at-8 e = ap (λ (k : ℕ). differ (told k)) e ∙ sym (or-false (differ (told 8))) ∙ refused-holds (refusals channel bytes) 7 e
+  at-8 e = ap (λ (k : ℕ). differ (told k)) e ∙ sym (or-false (differ (told 8))) ∙ refused-holds (refusalsOn channel bytes) 7 e
 
-  others : (OfAChecksum n → ⊥) → told n ≡ noChecksums
-  others not-these =
-      let not4 = ne-eqb n 4 (λ e. not-these (inl e)) in
-      let not8 = ne-eqb n 8 (λ e. not-these (inr e)) in
-      ap (λ (b : Bool). cond b (headerChecksums (headerRead bytes)) (cond (eqb n 8) (frameChecksums (channelOf channel) bytes (trailerRead bytes)) noChecksums)) not4
-      ∙ ap (λ (b : Bool). cond b (frameChecksums (channelOf channel) bytes (trailerRead bytes)) noChecksums) not8
-
-  by-rule : ToldWith n (told n)
-  by-rule =
-      record {
-        differing = λ of. differing-pair (told n) (came of at-4 at-8);
-        none = others;
-      }
+  pub right-on : Right channel bytes n
+  right-on = record { differing = λ of. differing-pair (told n) (came of at-4 at-8); none = silent n channel bytes }
 
 pub checksums-told : ChecksumsTold
 checksums-told channel bytes r says =
-    subst (λ (x : read.Told). ToldWith (x .number) (x .checksums)) (sym says) (by-rule channel bytes)
+    subst (λ (x : read.Told). ToldWith (x .number) (x .checksums)) (sym says)
+    (cases (notAChannel channel)
+    (λ t. subst right (sym (first-here 1 _ t)) (record { differing = λ of. absurd (not-1 of); none = silent 1 (channelOf channel) bytes }))
+    (λ t. subst right (sym (first-skip 1 _ t)) (right-on (channelOf channel) bytes)))
+  where
+    right : ℕ → Type 0
+    right = Right (channelOf channel) bytes
+
+    not-1 : OfAChecksum 1 → ⊥
+    not-1 (inl e) = omega arith
+    not-1 (inr e) = omega arith

@@ -26,12 +26,12 @@ plainReading t =
       expected = t .checksums .expected;
     }
 
-abbrev pub ReadGives : ℕ → List ℕ → PlainReading → Type 0
-ReadGives channel bytes r = r ≡ plainReading (read.rule channel bytes)
+abbrev pub PlainReadSays : ℕ → List ℕ → PlainReading → Type 0
+PlainReadSays channel bytes r = r ≡ plainReading (read.rule channel bytes)
 
 -- What the frame checksum's entry tells.
 abbrev pub plainChecksum : frameChecksum.Told → PlainChecksum
 plainChecksum t = record { number = t .number; value = t .value }
 
-abbrev pub FrameChecksumGives : ℕ → List ℕ → PlainChecksum → Type 0
-FrameChecksumGives channel bytes r = r ≡ plainChecksum (frameChecksum.rule channel bytes)
+abbrev pub PlainChecksumSays : ℕ → List ℕ → PlainChecksum → Type 0
+PlainChecksumSays channel bytes r = r ≡ plainChecksum (frameChecksum.rule channel bytes)

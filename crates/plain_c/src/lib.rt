@@ -2,7 +2,7 @@
 // numbers. c/hridvanolt.h declares them for C, where a byte range is a pointer and a size.
 //
 // Entries: `hridvanolt_read` and `hridvanolt_frame_checksum`, each on a channel number and bytes.
-ghost use Rattle.plain_c.specs.Plain.{ReadGives, FrameChecksumGives};
+ghost use Rattle.plain_c.specs.Plain.{PlainReadSays, PlainChecksumSays};
 
 // What reading tells: the refusal number or 0, the nine fields, all 0 with a refusal, and the checksum found and the one expected, both 0 but
 // with refusals 4 and 8.
@@ -33,7 +33,7 @@ pub struct PlainChecksum {
 // Reads a frame on a channel that is given by its number. The payload is the caller's own bytes 5 up to size minus 3.
 #[no_mangle]
 pub extern "C" fn hridvanolt_read(channel: u8, bytes: &[u8]) -> PlainReading
-    ensures { λ r. ⌜ ReadGives channel (now (bytes .entry)) r ⌝ }
+    ensures { λ r. ⌜ PlainReadSays channel (now (bytes .entry)) r ⌝ }
 {
     let reading = frame::read(channel, bytes);
     let header = reading.header();
@@ -57,7 +57,7 @@ pub extern "C" fn hridvanolt_read(channel: u8, bytes: &[u8]) -> PlainReading
 // The frame checksum of any bytes on a channel that is given by its number.
 #[no_mangle]
 pub extern "C" fn hridvanolt_frame_checksum(channel: u8, bytes: &[u8]) -> PlainChecksum
-    ensures { λ r. ⌜ FrameChecksumGives channel (now (bytes .entry)) r ⌝ }
+    ensures { λ r. ⌜ PlainChecksumSays channel (now (bytes .entry)) r ⌝ }
 {
     let checksum = checksum::frame_checksum(channel, bytes);
     PlainChecksum {

@@ -7,3 +7,4 @@ pub mod Playing
 pub mod Witnesses
 pub mod Gathered
 pub mod Numbers
+pub mod Checksums

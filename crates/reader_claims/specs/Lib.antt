@@ -5,3 +5,4 @@ pub mod Given
 pub mod Playing
 pub mod Pending
 pub mod Numbers
+pub mod Checksums

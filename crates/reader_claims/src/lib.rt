@@ -9,6 +9,7 @@ ghost use Rattle.base_types.specs.Channel.{notAChannel};
 ghost use Rattle.wire_reader.specs.Sound.{sound};
 ghost use Rattle.wire_reader.specs.Listening.{toldBy, ListenSays};
 ghost use Rattle.reader_claims.specs.Answers.{NumberTold, Alike};
+ghost use Rattle.reader_claims.specs.Checksums.{ErrorTold};
 ghost use Rattle.reader_claims.specs.Given.{isFrame};
 ghost use Rattle.reader_claims.specs.Numbers.{isOneOf, errorNumbers};
 ghost use Rattle.reader_claims.specs.Playing.{PlayedSays};
@@ -24,6 +25,15 @@ pub fn listen_number(reader: Reader, samples: &[u8], memory: &mut [u8]) -> u8
     let heard = wire_reader::listen(reader, samples, memory);
     let answer = heard.answer;
     answer.number()
+}
+
+// What was heard: with error 4 or 8 two checksums that differ, and 0 for both with any other.
+pub fn checksums_heard(reader: Reader, samples: &[u8], memory: &mut [u8]) -> Event
+    ensures { λ r. ⌜ ErrorTold (toldBy r) ⌝ }
+{
+    let heard = wire_reader::listen(reader, samples, memory);
+    let answer = heard.answer;
+    answer.event()
 }
 
 // Whether the reader that is opened is sound: exactly where it is not refused.

@@ -10,8 +10,8 @@ infix 70 _when_
 pub data Line : Type 0 where
   _when_ : ℕ → Bool → Line
 
--- What comes back beside a number: one thing where nothing is refused, another where something is
--- ("A refusal returns its number only", and beside three numbers what 01 and 02 add; docs/RULES.md, "Refusal numbers").
+-- What comes back beside a number: one thing where nothing is refused, another where something is. (What three refusals tell besides their
+-- number, docs/RULES.md says under "Refusal numbers".)
 module _ {ℓ} {A : Type ℓ} where
   abbrev pub ifAccepted : ℕ → A → A → A
   ifAccepted zero this other = this

@@ -9,7 +9,8 @@ use native.Mathlib.Omega.{arith}
 use lib.ListN.{take}
 use denote.Ref.{now}
 use Rattle.checksum.specs.declared.pair.ChecksumPair.{ChecksumPair}
-use Rattle.bench_line.specs.Line.{behindSpace, tellsChecksums}
+use Rattle.frame.specs.Read.{tellsChecksums}
+use Rattle.bench_line.specs.Line.{behindSpace}
 use Rattle.bench_line.specs.Putting.{Puts}
 use Rattle.bench_line.proofs.PuttingLaws.{puts-then}
 use Rattle.bench_line.proofs.put_checksums.Statement.{statement}
