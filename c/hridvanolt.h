@@ -1,6 +1,6 @@
 /* Frames read by the Hridvanolt library, for C (docs/RULES.md, "Reading from C").
  *
- * The archive is target/staticlib/libplain_c.a, for x86-64, which `rt staticlib plain_c` proves and makes. Both functions take any channel
+ * The archive is crates/plain_c/out/libplain_c.a, for x86-64, which `bash tools/build plain_c` proves and makes. Both functions take any channel
  * number and any bytes, end, and keep nothing between calls. They read no byte behind `size`, write nothing through `bytes`, and may be
  * called by any thread. Where `size` is 0, nothing is read through `bytes`, which may then be NULL. The caller sees to it that otherwise
  * `bytes` points to `size` bytes, which nobody writes during the call. */

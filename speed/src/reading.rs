@@ -8,8 +8,7 @@ pub trait Way {
     fn feed(register: u32, bytes: &[u8]) -> u32;
 }
 
-/// 01's nine fields, as the library lays them out.
-#[repr(C)]
+/// 01's nine fields.
 #[derive(Clone, Copy, Debug, Default, PartialEq, Eq)]
 pub struct Header {
     pub reserved: bool,

@@ -4,14 +4,14 @@ ghost use Rattle.base_types.specs.declared.channel.Channel.TheVariants.{A as Cha
 ghost use Rattle.base_types.specs.declared.channel.Named.TheVariants.{Is};
 ghost use Rattle.base_types.specs.Channel.{number_of, start_of, named_by};
 
-#[derive(Drop)]
+#[derive(Clone, Copy)]
 pub enum Channel {
     A,
     B,
 }
 
 // What a number names.
-#[derive(Drop)]
+#[derive(Clone, Copy)]
 pub enum Named {
     Is(Channel),
     NotAChannel,

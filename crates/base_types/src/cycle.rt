@@ -2,7 +2,7 @@
 ghost use Rattle.std.specs.Prelude.{◌≡◌};
 ghost use Rattle.base_types.specs.Cycle.{highest_cycle, cycle_too_high, is_odd};
 
-#[derive(Drop)]
+#[derive(Clone, Copy)]
 pub struct Cycle(pub u8);
 
 impl Cycle {

@@ -3,7 +3,7 @@ ghost use Rattle.std.specs.Prelude.{◌≡◌};
 ghost use Rattle.base_types.specs.Slot.{highest_id, not_an_id};
 
 // A frame ID, which is the number of the slot that the frame is sent in.
-#[derive(Drop)]
+#[derive(Clone, Copy)]
 pub struct Slot(pub u16);
 
 impl Slot {

@@ -2,6 +2,8 @@
 // number of them. Each holds any number of its size; beside it stands the condition that refuses what 01 does not take.
 //
 // For the crates above: `Channel` with what a number names, `Slot`, `Cycle`, `Microtick` and `SignedMicrotick`.
+#![tactic(auto)]
+
 mod channel;
 mod cycle;
 mod id;

@@ -3,10 +3,10 @@ ghost use Rattle.std.specs.Prelude.{◌≡◌, pos, nat_abs};
 ghost use Rattle.std.specs.Int.Signed.{lt_z};
 ghost use Rattle.base_types.specs.Microtick.{time_limit, above_time_limit, lowest_deviation, highest_deviation, is_deviation, held};
 
-#[derive(Drop)]
+#[derive(Clone, Copy)]
 pub struct Microtick(pub u32);
 
-#[derive(Drop)]
+#[derive(Clone, Copy)]
 pub struct SignedMicrotick(pub i32);
 
 impl Microtick {

@@ -1,20 +1,39 @@
 // Reads a channel byte and frame bytes from standard input, and writes one line: `accepted ID CYCLE WORDS`, or `refused N`, for 4 and
 // 8 with the checksum found and the one expected.
 // The line is made by the library `bench_line`, by the front of the input alone; the program only reads and writes.
-ghost use Rattle.std.specs.Prelude.{◌≤◌, ◌≡◌, length, take};
+#![tactic(auto)]
+
+ghost use Rattle.std.specs.Prelude.{◌≤◌, ◌≡◌, length, take, IfOk};
 ghost use Rattle.bench_line.specs.Line.{front as line_front, longest};
 ghost use Rattle.bench.specs.Program.{Answers};
 
-use libc::{STDIN_FILENO, STDOUT_FILENO};
+use std::io;
+use std::io::Read;
 
 // No contract can say what is read and written, so `main` has none: it reads until the front is full or the input ends, and writes
 // what `answer` has put into the line.
-fn main() {
+fn main(rt: HostRuntime) -> io::Result<()> {
     let mut front = [0u8; bench_line::FRONT];
-    let size = io::read_full(STDIN_FILENO, &mut front);
+    let mut input = rt.stdin();
+    let size = read_front(&mut input, &mut front)?;
     let mut line = [0u8; bench_line::LONGEST];
     let end = answer(&front, size, &mut line);
-    io::write_all(STDOUT_FILENO, &line[0..end]);
+    rt.write_all(&line[0..end])
+}
+
+// Reads until the front is full or the input ends, and answers how many bytes that was.
+fn read_front(input: &mut impl Read, front: &mut [u8]) -> io::Result<usize>
+    ensures { IfOk result (λ size. size ≤ length front.old) }
+{
+    let mut size = 0;
+    while size < front.len() {
+        let read = input.read(&mut front[size..])?;
+        if read == 0 {
+            return Ok(size);
+        }
+        size += read;
+    }
+    Ok(size)
 }
 
 // What is to be written for what was read: puts it into the line, and answers its size. The first `size` bytes of the front were

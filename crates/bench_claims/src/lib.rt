@@ -1,5 +1,7 @@
 // What follows from the rule of the bench program's line. `specs/` states the claims, `proofs/` proves them, and this file has their
 // witnesses: short functions over the entry, proved from its contract alone.
+#![tactic(auto)]
+
 ghost use Rattle.std.specs.Prelude.{◌≡◌, true};
 ghost use Rattle.bench_line.specs.Line.{LineSays};
 

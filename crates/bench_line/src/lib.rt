@@ -2,6 +2,8 @@
 //
 // Entry: `line` on the program's input, a channel byte and frame bytes, and lent output. The program `bench` reads and writes;
 // everything that decides stands here and in `frame`.
+#![tactic(auto)]
+
 ghost use Rattle.std.specs.Prelude.{◌≡◌, ◌+◌, ◌≤◌, length};
 ghost use Rattle.frame.specs.Read.{told};
 ghost use Rattle.bench_line.specs.Line.{front as line_front, longest as line_longest, behind_space, accepted_line, behind_number, refused_line, line_by, ReadingOfInput, LineSays};

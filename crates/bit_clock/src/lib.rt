@@ -2,12 +2,14 @@
 //
 // For the crates above: `BitClock`, with `fresh` and `none`, `is_sound`, and, for each sample, `votes`, `vote`, `strobes` and `after`. Each
 // takes whatever comes.
+#![tactic(auto)]
+
 ghost use Rattle.std.specs.Prelude.{◌≡◌, cond, suc, min, ◌<◌};
 ghost use Rattle.division.specs.Bits.{bit as bits_bit};
 ghost use Rattle.bit_clock.specs.Clock.{remembered, votes, vote, falls, strobes, after as clock_after, at_first, fresh_clock, no_clock, sound_clock};
 
 // What is remembered from one sample to the next.
-#[derive(Drop)]
+#[derive(Clone, Copy)]
 pub struct BitClock {
     // The last four samples. Those that have not come are low.
     pub oldest: bool,
@@ -38,14 +40,14 @@ impl BitClock {
     pub fn fresh() -> BitClock
         ensures { result ≡ fresh_clock }
     {
-        at_first_lem(1)
+        at_first(1)
     }
 
     // All zeros, all flags clear: what stands beside a refusal.
     pub fn none() -> BitClock
         ensures { result ≡ no_clock }
     {
-        at_first_lem(0)
+        at_first(0)
     }
 
     pub fn is_sound(self) -> bool
@@ -115,7 +117,7 @@ impl BitClock {
 }
 
 // No sample has come, and nothing is voted.
-fn at_first_lem(counter: u32) -> BitClock
+fn at_first(counter: u32) -> BitClock
     ensures { result ≡ at_first counter }
 {
     BitClock {

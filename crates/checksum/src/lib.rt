@@ -3,6 +3,8 @@
 // Entry: `frame_checksum`, on a channel number and bytes. For the crates above: `header_checksum` and `frame_checksum_on`. Both divide as
 // the loop of document 002, section 4.5.1, does: the header checksum bit by bit, the frame checksum a byte at a time, by the table of the
 // crate `checksum_table`. `ChecksumPair` is what a comparison tells: the checksum found, and the one worked out.
+#![tactic(auto)]
+
 mod pair;
 
 ghost use Rattle.std.specs.Prelude.{◌≡◌, [], ◌∷◌, ◌<◌, ◌≤◌, ◌^◌, min};
@@ -15,7 +17,7 @@ use base_types::{Channel, Named};
 pub use pair::ChecksumPair;
 
 // What `frame_checksum` answers.
-#[derive(Drop)]
+#[derive(Clone, Copy)]
 pub enum Checksum {
     Value(u32),
     NotAChannel,

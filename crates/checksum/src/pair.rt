@@ -3,7 +3,7 @@ ghost use Rattle.std.specs.Prelude.{◌≡◌};
 ghost use Rattle.checksum.specs.Pair.{no_checksums, is_none};
 
 // The checksum found in bytes, and the one worked out for them.
-#[derive(Drop)]
+#[derive(Clone, Copy)]
 pub struct ChecksumPair {
     pub found: u32,
     pub expected: u32,
@@ -24,7 +24,7 @@ impl ChecksumPair {
     }
 
     // 0 for both, which two that differ never are.
-    pub fn is_none_lem(self) -> bool
+    pub fn is_none(self) -> bool
         ensures { result ≡ is_none self }
     {
         (self.found == 0) & (self.expected == 0)

@@ -1,5 +1,7 @@
 // What follows from the checksums' rules. `specs/` states the claims, `proofs/` proves them, and this file has their witnesses:
 // short functions over the entry, proved from its contract alone.
+#![tactic(auto)]
+
 ghost use Rattle.std.specs.Prelude.{◌≡◌, false};
 ghost use Rattle.base_types.specs.Channel.{not_a_channel};
 

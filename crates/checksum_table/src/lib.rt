@@ -6,6 +6,8 @@
 //
 // It is a `match` and no array: a `match` becomes a constant table in the program, while an array would be written out anew at each use. The
 // index is a u32 because on a u8 the compiled look-up takes one instruction more, and each byte waits for that of the byte before.
+#![tactic(auto)]
+
 ghost use Rattle.std.specs.Prelude.{◌≡◌, min};
 ghost use Rattle.division.specs.Table.{entry as table_entry};
 

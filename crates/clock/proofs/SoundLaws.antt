@@ -29,7 +29,7 @@ use Rattle.clock.specs.Sound.{cycle_sound, rate_sound, sound}
 pub record Clauses (c : Clock) : Type 0 where
   pub settings : out_of_range c.settings ≡ false
   pub opened : cycle_sound c.opened ≡ true
-  pub last_closed_lem : cycle_sound c.last_closed ≡ true
+  pub last_closed : cycle_sound c.last_closed ≡ true
   pub even : list_sound (sync_id_limit c.settings) c.settings.mark c.even ≡ true
   pub odd : list_sound (sync_id_limit c.settings) c.settings.mark c.odd ≡ true
   pub rate : rate_sound c.rate (rate_limit c.settings) ≡ true
@@ -44,7 +44,7 @@ clauses c e =
     record {
       settings = not-true (out_of_range c.settings) h₁.0;
       opened = h₂.0;
-      last_closed_lem = h₃.0;
+      last_closed = h₃.0;
       even = h₄.0;
       odd = h₅.0;
       rate = h₅.1;
@@ -54,7 +54,7 @@ pub sound_by : (c : Clock) → Clauses c → sound c ≡ true
 sound_by c k =
     true_both (not (out_of_range c.settings)) _ (ap not k.settings)
     (true_both (cycle_sound c.opened) _ k.opened
-    (true_both (cycle_sound c.last_closed) _ k.last_closed_lem
+    (true_both (cycle_sound c.last_closed) _ k.last_closed
     (true_both (list_sound (sync_id_limit c.settings) c.settings.mark c.even) _ k.even
     (true_both (list_sound (sync_id_limit c.settings) c.settings.mark c.odd) _ k.odd k.rate))))
 

@@ -4,6 +4,8 @@
 // Entries: `load` on settings, `open_cycle` on a clock state and a cycle. Each takes whatever comes and gives an answer and a clock
 // state. For hosts: `Clock::none`, which is all zeros, and `is_sound`. For the crates above: `is_sound` too, by which a state that a
 // host hands in is refused, `current_cycle`, `list_of` and `with_list`, by which its measurements are read and replaced.
+#![tactic(auto)]
+
 mod loading;
 mod opening;
 mod sound;

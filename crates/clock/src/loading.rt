@@ -6,7 +6,7 @@ use crate::state::Clock;
 use settings::Settings;
 
 // What loading answers: that the settings are loaded, or why they are not.
-#[derive(Drop)]
+#[derive(Clone, Copy)]
 pub enum Loading {
     Loaded,
     // With the number of the first field out of range.
@@ -35,7 +35,7 @@ impl Loading {
     }
 }
 
-#[derive(Drop)]
+#[derive(Clone, Copy)]
 pub struct Loaded {
     pub answer: Loading,
     pub clock: Clock,

@@ -8,7 +8,7 @@ use base_types::Cycle;
 use sync_list::SyncList;
 
 // What opening a cycle answers: that it is open, or why it is not.
-#[derive(Drop)]
+#[derive(Clone, Copy)]
 pub enum CycleOpening {
     Opened,
     NotSound,
@@ -30,7 +30,7 @@ impl CycleOpening {
     }
 }
 
-#[derive(Drop)]
+#[derive(Clone, Copy)]
 pub struct CycleOpened {
     pub answer: CycleOpening,
     pub clock: Clock,

@@ -6,13 +6,13 @@ use base_types::{Cycle, SignedMicrotick};
 use settings::Settings;
 use sync_list::SyncList;
 
-#[derive(Drop)]
+#[derive(Clone, Copy)]
 pub enum CycleOrNone {
     NoCycle,
     Is(Cycle),
 }
 
-#[derive(Drop)]
+#[derive(Clone, Copy)]
 pub struct Clock {
     pub settings: Settings,
     // The measurements of an even cycle, and of an odd one.

@@ -28,7 +28,7 @@ use Rattle.closing.specs.declared.Report.{Report}
 use Rattle.closing.specs.declared.CycleClosed.{CycleClosed}
 use Rattle.closing.specs.Closing as closing
 use Rattle.closing.specs.Closing.{closing_refusals, report_of, closed_on, no_report}
-use Rattle.clock_claims.specs.History.{Call, load, open_cycle, measure, close_cycle, Answer, loaded, opened, measured, closed, Since, Past, nothing, since, just_loaded, after_opening, measurement_in, after_measuring, report_in, after_closing, open_refusals, measure_refusals, close_refusals, next, answer, past_of, answers_of}
+use Rattle.clock_claims.specs.History.{Call, load, open_cycle, measure, close_cycle, Answer, loaded, opened, measured, closed, Since, Past, nothing, since, just_loaded, after_opening, measurement_in, after_measuring, report_in, after_closing, open_refusals, close_refusals, next, answer, past_of, answers_of}
 use Rattle.clock_claims.specs.Histories.{Makes, MakesAll, Holds, Histories, SinceLoad, JustLoaded, LoadFresh}
 use Rattle.clock_claims.proofs.Answers.{load_one, open_one, measure_one, close_one}
 use Rattle.clock_claims.proofs.Sound.{no_clock_unsound}

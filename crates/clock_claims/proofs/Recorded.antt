@@ -126,7 +126,7 @@ module _ (c : Clock) (cycle : Cycle) (e : sound c ≡ true) where
       (record {
         settings = k.settings;
         opened = k.opened;
-        last_closed_lem = k.last_closed_lem;
+        last_closed = k.last_closed;
         even = of-even Good c cycle k.even k.odd good;
         odd = of-odd Good c cycle k.even k.odd good;
         rate = k.rate;

@@ -70,7 +70,7 @@ sound_exactly c typed = (
       record {
         settings = in_range_lem c.settings typed.settings k.settings;
         opened = cycle_good c.opened k.opened;
-        last_closed = cycle_good c.last_closed k.last_closed_lem;
+        last_closed = cycle_good c.last_closed k.last_closed;
         even = even.0;
         odd = odd.0;
         rate = rate_good c.rate (rate_limit c.settings) k.rate;
@@ -82,7 +82,7 @@ sound_exactly c typed = (
       (record {
         settings = range_in c.settings typed.settings s.settings;
         opened = good_cycle c.opened s.opened;
-        last_closed_lem = good_cycle c.last_closed s.last_closed;
+        last_closed = good_cycle c.last_closed s.last_closed;
         even = good_list (sync_id_limit c.settings) c.settings.mark c.even typed.even s.even s.even_rows;
         odd = good_list (sync_id_limit c.settings) c.settings.mark c.odd typed.odd s.odd s.odd_rows;
         rate = good_rate c.rate (rate_limit c.settings) s.rate.0 s.rate.1;

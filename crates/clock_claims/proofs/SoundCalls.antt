@@ -51,7 +51,7 @@ fresh_sound s e =
     (record {
       settings = e;
       opened = refl;
-      last_closed_lem = refl;
+      last_closed = refl;
       even = empty_sound (sync_id_limit s) s.mark;
       odd = empty_sound (sync_id_limit s) s.mark;
       rate = ap not (near_inside (rate_limit s) (pos 0) (zero_near (rate_limit s)));
@@ -71,7 +71,7 @@ opened_on_sound c cycle e low =
     (record {
       settings = k.settings;
       opened = ap not low;
-      last_closed_lem = k.last_closed_lem;
+      last_closed = k.last_closed;
       even =
           of_even_after (λ l. list_sound (sync_id_limit c.settings) c.settings.mark l ≡ true) c cycle k.even
           (empty_sound (sync_id_limit c.settings) c.settings.mark);
@@ -126,7 +126,7 @@ closed_on_sound c e there =
     (record {
       settings = k.settings;
       opened = refl;
-      last_closed_lem = open_cycle_sound c.opened k.opened there;
+      last_closed = open_cycle_sound c.opened k.opened there;
       even = k.even;
       odd = k.odd;
       rate = ap not (near_inside (rate_limit c.settings) (rate_found c).value.0 (found_near c e));

@@ -1,5 +1,7 @@
 // What follows from the clock's rules. `specs/` states the claims, `proofs/` proves them, and this file has their witnesses:
 // short functions over the entries, proved from their contracts alone.
+#![tactic(auto)]
+
 ghost use Rattle.std.specs.Prelude.{◌≡◌, true, false, ◌↔◌};
 ghost use Rattle.clock_claims.specs.Sound.{SoundClock};
 ghost use Rattle.clock_claims.specs.Histories.{Leaves};

@@ -1,3 +1,3 @@
 pub mod StatementLaws
-pub mod AnswerLaws
 pub mod RangeLaws
+pub mod AnswerLaws

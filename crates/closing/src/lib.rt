@@ -1,6 +1,8 @@
 // A cycle closed, with both terms worked out (document 01, "Clock").
 //
 // Entry: `close_cycle` on a clock state and two external controls. It takes whatever comes and gives an answer and a clock state.
+#![tactic(auto)]
+
 ghost use Rattle.std.specs.Prelude.{◌≡◌, true};
 ghost use Rattle.correction.specs.External.{sign_of};
 ghost use Rattle.clock.specs.Sound.{sound};
@@ -12,7 +14,7 @@ use correction::{Control, NamedControl, Term};
 use settings::Mark;
 
 // What a closed cycle reports.
-#[derive(Drop)]
+#[derive(Clone, Copy)]
 pub struct Report {
     pub offset: SignedMicrotick,
     pub rate: SignedMicrotick,
@@ -27,7 +29,7 @@ pub struct Report {
 }
 
 // What closing answers: the report, or why the cycle is not closed.
-#[derive(Drop)]
+#[derive(Clone, Copy)]
 pub enum Closing {
     Closed(Report),
     NotSound,
@@ -73,7 +75,7 @@ impl Report {
     };
 }
 
-#[derive(Drop)]
+#[derive(Clone, Copy)]
 pub struct CycleClosed {
     pub answer: Closing,
     pub clock: Clock,

@@ -6,7 +6,7 @@ ghost use Rattle.correction.specs.External.{control_named, sign_of, external_ter
 use base_types::SignedMicrotick;
 
 // What a host asks of a term: a unit less, nothing, or a unit more.
-#[derive(Drop)]
+#[derive(Clone, Copy)]
 pub enum Control {
     Less,
     Same,
@@ -14,7 +14,7 @@ pub enum Control {
 }
 
 // A number that a host gives for a control: it is one, or it is not.
-#[derive(Drop)]
+#[derive(Clone, Copy)]
 pub enum NamedControl {
     Is(Control),
     NotAControl,

@@ -2,6 +2,8 @@
 //
 // Everything here takes whatever comes. Sums are made wide and brought back to the signed type, which holds them as they are for
 // every sound clock state and every accepted number, and holds 0 for what is too large for it.
+#![tactic(auto)]
+
 mod arrival;
 mod external;
 mod term;

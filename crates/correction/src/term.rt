@@ -17,13 +17,13 @@ fn most_ids() -> usize
 }
 
 // The values that a midpoint is taken of: the first `count` numbers. There is room for this node's own zero behind them.
-#[derive(Drop)]
+#[derive(Clone, Copy)]
 pub struct Values {
     pub numbers: [i32; midpoint::MOST],
     pub count: usize,
 }
 
-#[derive(Drop)]
+#[derive(Clone, Copy)]
 pub struct Term {
     pub value: SignedMicrotick,
     pub is_missing: bool,

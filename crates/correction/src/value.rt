@@ -6,14 +6,14 @@ ghost use Rattle.correction.specs.Values.{smaller as values_smaller, difference_
 use base_types::SignedMicrotick;
 
 // A number of signed microticks, or none.
-#[derive(Drop)]
+#[derive(Clone, Copy)]
 pub enum Value {
     Absent,
     Is(SignedMicrotick),
 }
 
 // The deviations of an ID in one cycle, one for each channel that it was measured on.
-#[derive(Drop)]
+#[derive(Clone, Copy)]
 pub struct Deviations {
     pub on_a: Value,
     pub on_b: Value,

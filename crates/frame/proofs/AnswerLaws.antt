@@ -11,6 +11,7 @@ use Rattle.frame.specs.declared.Reading.{Reading}
 use Rattle.frame.specs.declared.Reading.TheVariants as reading
 use Rattle.frame.specs.Read.{told}
 use Rattle.frame.specs.contracts.Reading.{the_type}
+use Rattle.header.specs.declared.Header.{Header}
 
 -- any case but the first is a refusal, and has no header
 abbrev refusals : List ℕ
@@ -47,6 +48,18 @@ no_checksums_lem reading.WordsNotSize k = refl
 no_checksums_lem reading.IdZero k = refl
 no_checksums_lem reading.StartupWithoutSync k = refl
 no_checksums_lem (reading.FrameChecksumDiffers checksums) k = absurd (miss others 8 tt k)
+
+-- only the first has the number 0
+pub accepted_only : (r : Reading) → ((h : Header) → r ≡ reading.Accepted h → ⊥) → (told r).number ≡ 0 → ⊥
+accepted_only (reading.Accepted h) other e = other h refl
+accepted_only reading.NotAChannel other e = omega arith
+accepted_only reading.TooShort other e = omega arith
+accepted_only reading.BadSize other e = omega arith
+accepted_only (reading.HeaderChecksumDiffers checksums) other e = omega arith
+accepted_only reading.WordsNotSize other e = omega arith
+accepted_only reading.IdZero other e = omega arith
+accepted_only reading.StartupWithoutSync other e = omega arith
+accepted_only (reading.FrameChecksumDiffers checksums) other e = omega arith
 
 -- none has a number above 8
 pub number_at_most : (r : Reading) → (told r).number ≤ 8

@@ -1,2 +1,3 @@
 pub mod ReadLaws
+pub mod ReadOnLaws
 pub mod AnswerLaws

@@ -2,6 +2,8 @@
 //
 // Entries: `read` and `payload` on a channel number and bytes. For the crates above: `read_on` for a channel that is known to be one.
 // What a header is stands in the crate `header`.
+#![tactic(auto)]
+
 ghost use Rattle.std.specs.Prelude.{◌≡◌};
 ghost use Rattle.frame.specs.Read.{told, ReadSays, ReadOnSays, PayloadSays, PayloadLies, PartSays, PartLies};
 
@@ -10,7 +12,7 @@ use checksum::ChecksumPair;
 use header::Header;
 
 // What reading answers: the header, or what is wrong with the bytes. A checksum that differs comes with the one that was expected.
-#[derive(Drop)]
+#[derive(Clone, Copy)]
 pub enum Reading {
     Accepted(Header),
     NotAChannel,

@@ -1,5 +1,7 @@
 // What follows from the frame's rules. `specs/` states the claims, `proofs/` proves them, and this file has their witnesses:
 // short functions over the entries, proved from their contracts alone.
+#![tactic(auto)]
+
 ghost use Rattle.std.specs.Prelude.{◌≡◌, false};
 ghost use Rattle.refusal.specs.Refusal.{InOrder};
 ghost use Rattle.frame.specs.Read.{told, refusals as read_refusals};

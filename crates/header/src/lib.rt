@@ -2,6 +2,8 @@
 //
 // For the crates above: `Header` with its `checksum_due`, `Fields`, of which a header is written, `unpacked`, `packed`, `checksum_of` and
 // `checksums_of` for the 40 bits as those of a number, and the condition `startup_without_sync`.
+#![tactic(auto)]
+
 ghost use Rattle.std.specs.Prelude.{◌≡◌, ◌<◌, ◌^◌};
 ghost use Rattle.division.specs.Bits.{bits, bit as bits_bit};
 ghost use Rattle.header.specs.Layout.{most_words, most_payload, longest_frame, whole_header, header_checksum_of, header_checksums, header_in, no_header};
@@ -11,7 +13,7 @@ use base_types::{Cycle, Slot};
 use checksum::ChecksumPair;
 
 // What a header says: 01's nine fields, in the order in which they are sent.
-#[derive(Drop)]
+#[derive(Clone, Copy)]
 pub struct Header {
     pub reserved: bool,
     pub preamble: bool,
@@ -26,7 +28,7 @@ pub struct Header {
 }
 
 // The seven fields that are free when a frame is written. The others follow: words from the payload, the checksum from the rest.
-#[derive(Drop)]
+#[derive(Clone, Copy)]
 pub struct Fields {
     pub reserved: bool,
     pub preamble: bool,

@@ -1,5 +1,7 @@
 // That a measurement is that of the frame which a slot keeps, whatever happens in the slot behind it. `specs/` states the claim, `proofs/`
 // proves it, and this file has its witness: a short function over the entries, proved from their contracts alone.
+#![tactic(auto)]
+
 ghost use Rattle.kept_frame.specs.Measured.{MeasuredLater};
 
 use base_types::Microtick;

@@ -1,13 +1,12 @@
 -- Bytes put behind others.
-use Prim.Native.Nat.{ℕ, ◌+◌, ◌-◌, ◌<◌, ◌≤◌}
-use mathlib.Core.Path.{◌≡◌, sym, ◌∙◌}
+use Prim.Native.Nat.{ℕ, ◌+◌, ◌<◌, ◌≤◌}
+use mathlib.Core.Path.{◌≡◌, sym, ap₂, ◌∙◌}
 use mathlib.Core.List.{List, ◌++◌}
 use borrow.Author.Tests.{le-leb, lt-leb}
 use borrow.Rule.Slice.PartMut.{put_mid}
 use lib.ListN.{length, take, drop}
 use Rattle.lent_bytes.specs.Over.{over}
 use Rattle.lent_bytes.specs.Putting.{put_end, put_at}
-use Rattle.lent_bytes.proofs.OverLaws.{over_copied, lent_end}
 
 module _ (at : ℕ) (bytes output : List ℕ) where
   -- where there is room
@@ -24,8 +23,8 @@ module _ (at : ℕ) (bytes output : List ℕ) where
   pub not_put : length output < at + length bytes → put_at at bytes output ≡ output
   not_put none = rw (lt-leb (at + length bytes) (length output) none)
 
-  -- the end of the output was lent, and came back with the bytes copied to its front
-  pub copied_at : (part : List ℕ) → at + length bytes ≤ length output
-      → part ≡ take (length bytes) bytes ++ drop (length bytes) (take (length output - at) (drop at output))
-      → put_mid at (length output - at) output part ≡ put_at at bytes output
-  copied_at part room p = lent_end at output bytes part (p ∙ over_copied bytes _) ∙ sym (at_put room)
+  -- as many bytes of the output were lent as there are, and came back as they are
+  pub copied_at : (n : ℕ) (part : List ℕ) → n ≡ length bytes → at + length bytes ≤ length output → part ≡ bytes
+      → put_mid at n output part ≡ put_at at bytes output
+  unfolding over
+  copied_at n part e room p = ap₂ (λ (x : List ℕ) (k : ℕ). take at output ++ (x ++ drop k (drop at output))) p e ∙ sym (at_put room)

@@ -1,6 +1,8 @@
 // Bytes that are lent: numbers read from them, and bytes and numbers laid over them, most significant first.
 //
 // For the crates above: `number_in`, `put_number` and `put`. Each takes whatever comes; where there is no room, nothing is put.
+#![tactic(auto)]
+
 ghost use Rattle.std.specs.Prelude.{◌≡◌, ◌*◌, ◌≤◌, length};
 ghost use Rattle.division.specs.Bits.{number as bits_number, bits, bytes_bits, bytes_of};
 ghost use Rattle.lent_bytes.specs.Over.{over};
@@ -69,5 +71,7 @@ pub fn put(output: &mut [u8], at: usize, bytes: &[u8]) -> usize
     if output.len() - at < bytes.len() {
         return at;
     }
-    at + bytes::copy(bytes, &mut output[at..])
+    let end = at + bytes.len();
+    output[at..end].copy_from_slice(bytes);
+    end
 }

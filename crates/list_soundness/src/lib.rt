@@ -1,6 +1,8 @@
 // Soundness of a list (document 01, "Refusal numbers"): a host may hand in any.
 //
 // For the clock: `is_sound`.
+#![tactic(auto)]
+
 ghost use Rattle.std.specs.Prelude.{◌≡◌, ◌||◌};
 ghost use Rattle.sync_list.specs.Rows.{is_measured};
 ghost use Rattle.list_soundness.specs.Sound.{is_in_range, row_sound, carries, row_marked, list_sound};

@@ -1,6 +1,8 @@
 // The values that the IDs of a list add to a midpoint (document 01, "Clock").
 //
 // For closing: `offset_values` and `rate_values`. Each takes any list, also one whose count is above its rows.
+#![tactic(auto)]
+
 ghost use Rattle.std.specs.Prelude.{◌≡◌, [], ◌++◌, suc, ◌≤◌, ◌<◌, length, take};
 ghost use Rattle.midpoint.specs.Midpoint.{most_values};
 ghost use Rattle.base_types.specs.Microtick.{held};

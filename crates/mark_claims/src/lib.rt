@@ -1,5 +1,7 @@
 // What follows for the marks of settings (document 02, C-17). `specs/` states the claims, `proofs/` proves them, and this file has their
 // witnesses: short functions over the entries, proved from their contracts alone. Sequences of calls are numbers, as in `clock_claims`.
+#![tactic(auto)]
+
 ghost use Rattle.clock_claims.specs.Witnesses.{calls_of};
 ghost use Rattle.measuring.specs.Measuring.{MeasureSays};
 ghost use Rattle.mark_claims.specs.Marks.{Marked, ReportedWell};

@@ -1,3 +1,3 @@
 pub mod StatementLaws
-pub mod AnswerLaws
 pub mod DeviationLaws
+pub mod AnswerLaws

@@ -1,6 +1,8 @@
 // A sync frame measured (document 01, "Clock").
 //
 // Entry: `measure` on a clock state, a slot status and two times. It takes whatever comes and gives an answer and a clock state.
+#![tactic(auto)]
+
 ghost use Rattle.std.specs.Prelude.{◌≡◌};
 ghost use Rattle.base_types.specs.Microtick.{held};
 ghost use Rattle.measuring.specs.Measuring.{told, frame_of, no_sync_frame, other_cycle, measured_already, list_full, delay_on, deviation_by, measurement_with, measured_on, MeasureSays};
@@ -13,7 +15,7 @@ use slot::Status;
 use sync_list::Measurement;
 
 // What measuring answers: the deviation, or why the frame is not measured.
-#[derive(Drop)]
+#[derive(Clone, Copy)]
 pub enum Measuring {
     Taken(SignedMicrotick),
     NotSound,
@@ -53,7 +55,7 @@ impl Measuring {
     }
 }
 
-#[derive(Drop)]
+#[derive(Clone, Copy)]
 pub struct FrameMeasured {
     pub answer: Measuring,
     pub clock: Clock,
@@ -99,7 +101,7 @@ pub fn measure(
     if is_measured {
         return refused(Measuring::MeasuredAlready, clock);
     }
-    if list_full_lem(clock, status) {
+    if list_full(clock, status) {
         return refused(Measuring::ListFull, clock);
     }
     let measurement = measurement_by(clock, status, observed, action_point);
@@ -162,7 +164,7 @@ fn measured_already(clock: Clock, status: Status) -> bool
 }
 
 // Refusal 15.
-fn list_full_lem(clock: Clock, status: Status) -> bool
+fn list_full(clock: Clock, status: Status) -> bool
     ensures { result ≡ list_full clock status }
 {
     let frame = frame_of(status);

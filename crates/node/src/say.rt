@@ -1,39 +1,38 @@
-// What the node says: text and numbers on standard output.
+// What the node says: text and numbers on standard output. That it is not heard stops no node: a write that fails is left at that.
 use base_types::SignedMicrotick;
-use libc::STDOUT_FILENO;
 
-pub fn term(value: SignedMicrotick, is_missing: bool, is_limited: bool) {
-    signed(value);
+pub fn term(to: &impl Print, value: SignedMicrotick, is_missing: bool, is_limited: bool) {
+    signed(to, value);
     if is_missing {
-        text(b" missing");
+        text(to, b" missing");
     }
     if is_limited {
-        text(b" limited");
+        text(to, b" limited");
     }
 }
 
 // Says what an entry did, or the number of its refusal.
-pub fn told(done: &[u8], refusal: u8) {
+pub fn told(to: &impl Print, done: &[u8], refusal: u8) {
     if refusal == 0 {
-        text(done);
+        text(to, done);
         return;
     }
-    number(b" refused ", refusal as u64);
+    number(to, b" refused ", refusal as u64);
 }
 
-pub fn text(bytes: &[u8]) {
-    io::write_all(STDOUT_FILENO, bytes);
+pub fn text(to: &impl Print, bytes: &[u8]) {
+    let _ = to.write_all(bytes);
 }
 
-pub fn number(before: &[u8], value: u64) {
-    text(before);
-    io::print_decimal(STDOUT_FILENO, value);
+pub fn number(to: &impl Print, before: &[u8], value: u64) {
+    text(to, before);
+    let _ = to.print(value);
 }
 
-pub fn signed(value: SignedMicrotick) {
+pub fn signed(to: &impl Print, value: SignedMicrotick) {
     if value.is_negative() {
-        number(b" -", value.amount() as u64);
+        number(to, b" -", value.amount() as u64);
         return;
     }
-    number(b" ", value.amount() as u64);
+    number(to, b" ", value.amount() as u64);
 }

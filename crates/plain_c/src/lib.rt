@@ -2,12 +2,14 @@
 // numbers. c/hridvanolt.h declares them for C, where a byte range is a pointer and a size.
 //
 // Entries: `hridvanolt_read` and `hridvanolt_frame_checksum`, each on a channel number and bytes.
+#![tactic(auto)]
+
 ghost use Rattle.plain_c.specs.Plain.{PlainReadSays, PlainChecksumSays};
 
 // What reading tells: the refusal number or 0, the nine fields, all 0 with a refusal, and the checksum found and the one expected, both 0 but
 // with refusals 4 and 8.
 #[repr(C)]
-#[derive(Drop)]
+#[derive(Clone, Copy)]
 pub struct PlainReading {
     pub number: u8,
     pub reserved: bool,
@@ -26,7 +28,7 @@ pub struct PlainReading {
 
 // What the frame checksum's entry tells: the refusal number or 0, and the checksum, 0 with a refusal.
 #[repr(C)]
-#[derive(Drop)]
+#[derive(Clone, Copy)]
 pub struct PlainChecksum {
     pub number: u8,
     pub value: u32,

@@ -1,5 +1,5 @@
 -- How many changed samples do no harm is exact: with two others between changed ones instead of three a frame can be lost.
-use Prim.Native.Nat.{ℕ, ◌≤◌}
+use Prim.Native.Nat.{ℕ}
 use mathlib.Core.Path.{◌≡◌, refl, sym, ap, ◌∙◌}
 use mathlib.Core.Bool.{Bool, true, false, false≢true}
 use mathlib.Core.List.{List, [], ◌∷◌, ◌++◌}
@@ -9,16 +9,15 @@ use Rattle.refusal.specs.Refusal.{first}
 use Rattle.division.specs.Bits.{bits, number, bytes_bits, bytes_of}
 use Rattle.division.specs.Division.{exor, only_if, step, feed, checksum}
 use Rattle.division.proofs.BytesLaws.{are_bytes_of}
-use Rattle.base_types.specs.declared.channel.Channel.{Channel}
 use Rattle.base_types.specs.declared.channel.Channel.TheVariants.{A}
-use Rattle.header.specs.Layout.{longest_frame, header_in}
+use Rattle.header.specs.Layout.{header_in}
 use Rattle.frame.specs.Read.{refused}
 use Rattle.wire.specs.Stream.{coded, stream}
 use Rattle.wire_reader.specs.Decoder.{wrong, header_wrong, complete}
 use Rattle.wire_reader.specs.Reader as reader
 use Rattle.wire_reader.specs.Reader.{Event, fresh, run}
 use Rattle.reader_claims.specs.Given.{is_frame}
-use Rattle.read_back.specs.Sending.{Sending, Right, AllRight, none, ◌and◌, sampled, samples_of_all}
+use Rattle.read_back.specs.Sending.{Sending, Right, none, ◌and◌, sampled, samples_of_all}
 use Rattle.read_back.specs.Disturbed as disturbed
 use Rattle.read_back.specs.Disturbed.{sparse, GivenNearly, NotByTwo}
 

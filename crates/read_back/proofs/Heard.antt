@@ -15,7 +15,6 @@ use Rattle.header.specs.Layout.{longest_frame}
 use Rattle.wire_reader.specs.declared.reader.Reader.{Reader}
 use Rattle.wire_reader.specs.declared.opening.Opened.{Opened}
 use Rattle.wire_reader.specs.declared.listening.Listened.{Listened}
-use Rattle.wire_reader.specs.Decoder as decoder
 use Rattle.wire_reader.specs.Decoder.{Place}
 use Rattle.wire_reader.specs.Reader.{State, Event, Run, Piece, fresh, run, piece, fresh_reader, no_reader}
 use Rattle.wire_reader.specs.Opening.{OpenSays}

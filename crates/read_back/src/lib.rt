@@ -1,5 +1,7 @@
 // What C-11 writes is read back, also where samples are disturbed. `specs/` states the claims, `proofs/` proves them, and this file has
 // their witnesses: short functions over the entries of the reader, proved from their contracts alone.
+#![tactic(auto)]
+
 ghost use Rattle.read_back.specs.Witnesses.{FirstHeard, AllHeard};
 
 use reader_claims::Played;

@@ -50,5 +50,5 @@ pub record NumberTold (reader : Reader) (before after : List ℕ) (n : ℕ) : Ty
 
 -- `heard_alike`: of samples whose levels are the same, with the same memory.
 abbrev pub Alike : List ℕ → List ℕ → List ℕ → List ℕ → List ℕ → List ℕ → Bool → Type 0
-Alike samples before after others other-before other_After r =
-    map is_high samples ≡ map is_high others → before ≡ other-before → (r ≡ true) × (after ≡ other_After)
+Alike samples before after others other_before other_after r =
+    map is_high samples ≡ map is_high others → before ≡ other_before → (r ≡ true) × (after ≡ other_after)

@@ -1,5 +1,7 @@
 // What follows from the rules of reading the wire. `specs/` states the claims, `proofs/` proves them, and this file has their
 // witnesses: short functions over the entries, proved from their contracts alone.
+#![tactic(auto)]
+
 ghost use Rattle.std.specs.Prelude.{◌≡◌, true, not, ◌∷◌, ◌<◌};
 ghost use Rattle.division.specs.Bits.{bit as bits_bit};
 ghost use Rattle.base_types.specs.Channel.{not_a_channel};
@@ -123,7 +125,7 @@ pub fn first_number(channel: u8, samples: &[u8], memory: &mut [u8]) -> u8
 }
 
 // What came of samples that were played to their end.
-#[derive(Drop)]
+#[derive(Clone, Copy)]
 pub struct Played {
     pub frames: usize,
     pub errors: usize,

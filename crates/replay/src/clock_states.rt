@@ -29,8 +29,8 @@ pub fn is_right(item: Item) -> bool {
 }
 
 // `K`: settings, open switch, cycle, closed switch, last, rate, even list, odd list, mark, the marks of both lists.
-pub fn put(item: Item) -> Clock {
-    line::write_words(b"clock put");
+pub fn put(to: &impl Print, item: Item) -> Clock {
+    line::write_words(to, b"clock put");
     Clock {
         settings: sheet::of(item, MARK),
         even: lists::of(item, EVEN, EVEN_PAIRS),
@@ -50,7 +50,7 @@ fn cycle_behind(switch: u8, cycle: u8) -> CycleOrNone {
 }
 
 // `clock F1 .. F11 SENDS OPEN CYCLE CLOSED LAST RATE EVEN n (ID SEEN A B)*n ODD n (ID SEEN A B)*n MARK EVEN (A B)*n ODD (A B)*n`
-pub fn show(clock: Clock) {
+pub fn show(to: &impl Print, clock: Clock) {
     let opened = clock.opened;
     let last_closed = clock.last_closed;
     let rate = clock.rate;
@@ -69,7 +69,7 @@ pub fn show(clock: Clock) {
     let at = lists::put_pairs(&mut line, at, clock.even);
     let at = line::put(&mut line, at, b" ODD");
     let at = lists::put_pairs(&mut line, at, clock.odd);
-    line::end(&mut line, at);
+    line::end(to, &mut line, at);
 }
 
 // Puts a switch and the cycle behind it, zeros where there is none.

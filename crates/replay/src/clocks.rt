@@ -32,77 +32,77 @@ pub const MEASURE_SIZE: usize = ACTION_POINT + 4;
 pub const CLOSE_SIZE: usize = RATE_CONTROL + 1;
 
 // Plays the command on the clock that has this letter; any other leaves the clock state as it is.
-pub fn play(letter: u8, item: Item, clock: Clock, status: Status) -> Clock {
+pub fn play(to: &impl Print, letter: u8, item: Item, clock: Clock, status: Status) -> Clock {
     match letter {
-        b'L' => load(item),
-        b'O' => open_cycle(item, clock),
-        b'M' => measure(item, clock, status),
-        b'C' => close_cycle(item, clock),
-        b'K' => clock_states::put(item),
+        b'L' => load(to, item),
+        b'O' => open_cycle(to, item, clock),
+        b'M' => measure(to, item, clock, status),
+        b'C' => close_cycle(to, item, clock),
+        b'K' => clock_states::put(to, item),
         _ => clock,
     }
 }
 
 // `L`: settings, mark.
-fn load(item: Item) -> Clock {
+fn load(to: &impl Print, item: Item) -> Clock {
     let loaded = clock::load(sheet::of(item, MARK));
     let answer = loaded.answer;
-    answer_loading(answer);
+    answer_loading(to, answer);
     loaded.clock
 }
 
 // `load N FIELD`
-fn answer_loading(answer: Loading) {
+fn answer_loading(to: &impl Print, answer: Loading) {
     let numbers = [answer.number() as u64, answer.field() as u64];
-    line::write(b"load", &numbers);
+    line::write(to, b"load", &numbers);
 }
 
 // `O`: cycle.
-fn open_cycle(item: Item, clock: Clock) -> Clock {
+fn open_cycle(to: &impl Print, item: Item, clock: Clock) -> Clock {
     let opened = clock::open_cycle(clock, Cycle(item[CYCLE]));
     let answer = opened.answer;
-    answer_opening(answer);
+    answer_opening(to, answer);
     opened.clock
 }
 
 // `open N`
-fn answer_opening(answer: CycleOpening) {
+fn answer_opening(to: &impl Print, answer: CycleOpening) {
     let numbers = [answer.number() as u64];
-    line::write(b"open", &numbers);
+    line::write(to, b"open", &numbers);
 }
 
 // `M`: observed time, action point. The frame is that of the status that is held.
-fn measure(item: Item, clock: Clock, status: Status) -> Clock {
+fn measure(to: &impl Print, item: Item, clock: Clock, status: Status) -> Clock {
     let observed = Microtick(item::long(item, OBSERVED));
     let action_point = Microtick(item::long(item, ACTION_POINT));
     let measured = measuring::measure(clock, status, observed, action_point);
     let answer = measured.answer;
-    answer_measuring(answer);
+    answer_measuring(to, answer);
     measured.clock
 }
 
 // `measure N DEVIATION`
-fn answer_measuring(answer: Measuring) {
+fn answer_measuring(to: &impl Print, answer: Measuring) {
     let deviation = answer.deviation();
     let mut line = [0u8; line::ROOM];
     let at = line::put(&mut line, 0, b"measure");
     let at = line::decimal(&mut line, at, answer.number() as u64);
     let at = line::signed(&mut line, at, deviation);
-    line::end(&mut line, at);
+    line::end(to, &mut line, at);
 }
 
 // `C`: offset control, rate control.
-fn close_cycle(item: Item, clock: Clock) -> Clock {
+fn close_cycle(to: &impl Print, item: Item, clock: Clock) -> Clock {
     let offset_control = script::signed_byte(item[OFFSET_CONTROL]);
     let rate_control = script::signed_byte(item[RATE_CONTROL]);
     let closed = closing::close_cycle(clock, offset_control, rate_control);
     let answer = closed.answer;
-    answer_closing(answer);
+    answer_closing(to, answer);
     closed.clock
 }
 
 // `close N OFFSET RATE OM RM OL RL IDS MARK`
-fn answer_closing(answer: Closing) {
+fn answer_closing(to: &impl Print, answer: Closing) {
     let report = answer.report();
     let offset = report.offset;
     let rate = report.rate;
@@ -120,5 +120,5 @@ fn answer_closing(answer: Closing) {
     let at = line::signed(&mut line, at, offset);
     let at = line::signed(&mut line, at, rate);
     let at = line::decimals(&mut line, at, &numbers);
-    line::end(&mut line, at);
+    line::end(to, &mut line, at);
 }

@@ -6,7 +6,7 @@ use base_types::{Cycle, Slot};
 use checksum::ChecksumPair;
 use frame::Reading;
 use header::{Fields, Header};
-use libc::STDOUT_FILENO;
+use std::io::Read;
 
 // The places of an item of `W`. An item of `F` and of `R` is its channel alone.
 const CHANNEL: usize = 0;
@@ -28,37 +28,37 @@ pub const WRITE_SIZE: usize = CYCLE + 1;
 pub const ENCODE_SIZE: usize = START + 1;
 
 // Plays the command on frames that has this letter: each takes a size and bytes behind its item, `W` and `E` a room behind them.
-pub fn play(letter: u8, item: Item) -> bool {
+pub fn play(from: &mut impl Read, to: &impl Print, letter: u8, item: Item) -> bool {
     let mut space = [0u8; script::MOST];
-    let size = script::take_bytes(&mut space);
+    let size = script::take_bytes(from, &mut space);
     if size.is_script_error {
         return false;
     }
     let end = size.bytes;
-    answer(letter, item, &space[0..end])
+    answer(from, to, letter, item, &space[0..end])
 }
 
-fn answer(letter: u8, item: Item, bytes: &[u8]) -> bool {
+fn answer(from: &mut impl Read, to: &impl Print, letter: u8, item: Item, bytes: &[u8]) -> bool {
     match letter {
-        b'F' => answer_checksum(item[CHANNEL], bytes),
-        b'R' => answer_read(item[CHANNEL], bytes),
-        b'W' | b'E' => answer_in_room(letter, item, bytes),
-        b'P' => answer_bench(bytes),
+        b'F' => answer_checksum(to, item[CHANNEL], bytes),
+        b'R' => answer_read(to, item[CHANNEL], bytes),
+        b'W' | b'E' => answer_in_room(from, to, letter, item, bytes),
+        b'P' => answer_bench(to, bytes),
         _ => false,
     }
 }
 
 // `F`, whose item is a channel: `checksum N VALUE`
-fn answer_checksum(channel: u8, bytes: &[u8]) -> bool {
+fn answer_checksum(to: &impl Print, channel: u8, bytes: &[u8]) -> bool {
     let checksum = checksum::frame_checksum(channel, bytes);
     let numbers = [checksum.number() as u64, checksum.value() as u64];
-    line::write(b"checksum", &numbers);
+    line::write(to, b"checksum", &numbers);
     true
 }
 
 // `R`, whose item is a channel: `read 0 RESERVED PREAMBLE NULL SYNC STARTUP ID WORDS CHECKSUM CYCLE PAYLOAD FOUND EXPECTED`,
 // or `read N PAYLOAD FOUND EXPECTED`
-fn answer_read(channel: u8, bytes: &[u8]) -> bool {
+fn answer_read(to: &impl Print, channel: u8, bytes: &[u8]) -> bool {
     let reading = frame::read(channel, bytes);
     let mut line = [0u8; line::ROOM];
     let at = line::put(&mut line, 0, b"read");
@@ -66,7 +66,7 @@ fn answer_read(channel: u8, bytes: &[u8]) -> bool {
     let at = put_header(&mut line, at, reading);
     let at = line::hex(&mut line, at, frame::payload(channel, bytes));
     let at = put_checksums(&mut line, at, reading.checksums());
-    line::end(&mut line, at);
+    line::end(to, &mut line, at);
     true
 }
 
@@ -101,38 +101,44 @@ pub fn put_fields(line: &mut [u8; line::ROOM], at: usize, header: Header) -> usi
 }
 
 // `W` and `E`: the room stands behind the bytes, and output of that size is lent.
-fn answer_in_room(letter: u8, item: Item, bytes: &[u8]) -> bool {
-    let room = script::take_size(script::MOST);
+fn answer_in_room(
+    from: &mut impl Read,
+    to: &impl Print,
+    letter: u8,
+    item: Item,
+    bytes: &[u8],
+) -> bool {
+    let room = script::take_size(from, script::MOST);
     if room.is_script_error {
         return false;
     }
     let lent = room.bytes;
     let mut output = [0xA5u8; script::MOST];
     match letter {
-        b'W' => answer_write(item, bytes, &mut output[0..lent]),
-        _ => answer_encode(item, bytes, &mut output[0..lent]),
+        b'W' => answer_write(to, item, bytes, &mut output[0..lent]),
+        _ => answer_encode(to, item, bytes, &mut output[0..lent]),
     }
 }
 
 // `W`, whose item is channel, flags, ID and cycle. The bytes are the payload: `write N LENGTH OUTPUT`
-fn answer_write(item: Item, payload: &[u8], output: &mut [u8]) -> bool {
+fn answer_write(to: &impl Print, item: Item, payload: &[u8], output: &mut [u8]) -> bool {
     let fields = fields_of(item[FLAGS], item::number(item, ID), item[CYCLE]);
     let writing = writing::write(item[CHANNEL], fields, payload, output);
     let numbers = [writing.number() as u64, writing.length() as u64];
     let mut line = [0u8; line::ROOM];
     let at = put_with_output(&mut line, b"write", &numbers, output);
-    line::end(&mut line, at);
+    line::end(to, &mut line, at);
     true
 }
 
 // `E`, whose item is channel and start length: `encode N BITS OUTPUT FOUND EXPECTED`
-fn answer_encode(item: Item, bytes: &[u8], output: &mut [u8]) -> bool {
+fn answer_encode(to: &impl Print, item: Item, bytes: &[u8], output: &mut [u8]) -> bool {
     let encoding = wire::encode(item[CHANNEL], bytes, item[START], output);
     let numbers = [encoding.number() as u64, encoding.bits() as u64];
     let mut line = [0u8; line::ROOM];
     let at = put_with_output(&mut line, b"encode", &numbers, output);
     let at = put_checksums(&mut line, at, encoding.checksums());
-    line::end(&mut line, at);
+    line::end(to, &mut line, at);
     true
 }
 
@@ -162,9 +168,9 @@ pub fn fields_of(flags: u8, id: u16, cycle: u8) -> Fields {
 }
 
 // `P`, which has no item: the line that the bench program writes for these bytes.
-fn answer_bench(input: &[u8]) -> bool {
+fn answer_bench(to: &impl Print, input: &[u8]) -> bool {
     let mut line = [0u8; bench_line::LONGEST];
     let end = bench_line::line(input, &mut line);
-    io::write_all(STDOUT_FILENO, &line[0..end]);
+    let _ = to.write_all(&line[0..end]);
     true
 }

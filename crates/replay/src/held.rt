@@ -8,7 +8,7 @@ use wire_reader::Reader;
 pub const MEMORY: usize = 270;
 
 // (The memory stands first: the prover looks for its length field by field, and a clock state has many.)
-#[derive(Drop)]
+#[derive(Clone, Copy)]
 pub struct Held {
     pub memory: [u8; MEMORY],
     pub is_script_error: bool,

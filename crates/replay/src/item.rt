@@ -4,6 +4,7 @@ ghost use Rattle.std.specs.Prelude.{◌+◌, ◌≤◌};
 ghost use Rattle.replay.specs.Items.{item_room};
 
 use crate::{clock_states, clocks, frames, readers, script, sheet, slots, statuses};
+use std::io::Read;
 
 // The bytes of an item, zeros behind its end.
 pub type Item = [u8; ROOM];
@@ -12,17 +13,17 @@ pub type Item = [u8; ROOM];
 const ROOM: usize = clock_states::SIZE;
 
 // An item. Beside a script error it says nothing.
-#[derive(Drop)]
+#[derive(Clone, Copy)]
 pub struct TakenItem {
     pub is_script_error: bool,
     pub item: Item,
 }
 
 // Takes the item behind this letter.
-pub fn take(letter: u8) -> TakenItem {
+pub fn take(from: &mut impl Read, letter: u8) -> TakenItem {
     let mut item = [0u8; ROOM];
     let size = size_behind(letter);
-    let is_taken = script::take(&mut item[0..size]);
+    let is_taken = script::take(from, &mut item[0..size]);
     TakenItem {
         is_script_error: !(is_taken && is_right(letter, item)),
         item,

@@ -4,24 +4,23 @@ ghost use Rattle.std.specs.Prelude.{◌≤◌};
 ghost use Rattle.replay.specs.Items.{line_room};
 
 use base_types::SignedMicrotick;
-use libc::STDOUT_FILENO;
 
 // Room for every line. The longest is that of a clock state whose numbers have as many digits as they can: 1,810 characters.
 pub const ROOM: usize = 1900;
 
 // Writes a line of a word and numbers.
-pub fn write(word: &[u8], numbers: &[u64]) {
+pub fn write(to: &impl Print, word: &[u8], numbers: &[u64]) {
     let mut line = [0u8; ROOM];
     let at = put(&mut line, 0, word);
     let at = decimals(&mut line, at, numbers);
-    end(&mut line, at);
+    end(to, &mut line, at);
 }
 
 // Writes a line of words alone.
-pub fn write_words(words: &[u8]) {
+pub fn write_words(to: &impl Print, words: &[u8]) {
     let mut line = [0u8; ROOM];
     let at = put(&mut line, 0, words);
-    end(&mut line, at);
+    end(to, &mut line, at);
 }
 
 // Puts the bytes as they are.
@@ -76,11 +75,11 @@ pub fn hex(line: &mut [u8; ROOM], at: usize, bytes: &[u8]) -> usize {
     at
 }
 
-// Puts the line feed and writes the line.
-pub fn end(line: &mut [u8; ROOM], at: usize) {
+// Puts the line feed and writes the line. A write that fails is left at that.
+pub fn end(to: &impl Print, line: &mut [u8; ROOM], at: usize) {
     let end = put_byte(line, at, b'\n');
     let whole = &line[..];
-    io::write_all(STDOUT_FILENO, &whole[0..end]);
+    let _ = to.write_all(&whole[0..end]);
 }
 
 fn put_digits(line: &mut [u8; ROOM], at: usize, number: u64) -> usize {

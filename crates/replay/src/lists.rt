@@ -71,7 +71,7 @@ fn measured_of(is_seen: bool, item: Item, deviation: usize, mark: usize) -> Meas
 }
 
 // What of each listed row is put.
-#[derive(Drop)]
+#[derive(Clone, Copy)]
 enum Part {
     // `ID SEEN A B`
     Measurements,

@@ -5,6 +5,7 @@ ghost use Rattle.replay.specs.Items.{memory_size, sample_room};
 use crate::held::{Held, MEMORY};
 use crate::{frames, line, script};
 use checksum::ChecksumPair;
+use std::io::Read;
 use wire_reader::{Event, Heard, Listening, Reader};
 
 // The most runs of a piece, and the most samples.
@@ -16,13 +17,13 @@ const MOST_SAMPLES: usize = 24000;
 const ROOM: usize = MOST_SAMPLES + 1;
 
 // `Y`: room, runs.
-pub fn listen(held: Held) -> Held {
-    let room = script::take_size(MEMORY);
+pub fn listen(from: &mut impl Read, to: &impl Print, held: Held) -> Held {
+    let room = script::take_size(from, MEMORY);
     if room.is_script_error {
         return held.after(false);
     }
     let mut space = [0u8; 2 * MOST_RUNS];
-    let runs = script::take_pairs(&mut space);
+    let runs = script::take_pairs(from, &mut space);
     if runs.is_script_error {
         return held.after(false);
     }
@@ -32,15 +33,21 @@ pub fn listen(held: Held) -> Held {
     if MOST_SAMPLES < count {
         return held.after(false);
     }
-    hear_front(held, room.bytes, &mut samples, count)
+    hear_front(to, held, room.bytes, &mut samples, count)
 }
 
 // Listens to the first `count` of the samples. (They are lent as they were filled: so the prover knows how many there are.)
-fn hear_front(held: Held, room: usize, samples: &mut [u8; ROOM], count: usize) -> Held
+fn hear_front(
+    to: &impl Print,
+    held: Held,
+    room: usize,
+    samples: &mut [u8; ROOM],
+    count: usize,
+) -> Held
     requires { (room ≤ memory_size) × (count ≤ sample_room) }
 {
     let whole = &samples[..];
-    hear(held, room, &whole[0..count])
+    hear(to, held, room, &whole[0..count])
 }
 
 // Lays the runs out as samples, and answers how many they are; where they are too many, one too many.
@@ -81,17 +88,23 @@ fn lay_sample(samples: &mut [u8; ROOM], at: usize, sample: u8) -> usize {
 }
 
 // Listens to the piece with the first `room` bytes of the memory.
-fn hear(held: Held, room: usize, samples: &[u8]) -> Held
+fn hear(to: &impl Print, held: Held, room: usize, samples: &[u8]) -> Held
     requires { room ≤ memory_size }
 {
     let mut memory = held.memory;
-    let reader = hear_all(held.reader, samples, &mut memory, room);
+    let reader = hear_all(to, held.reader, samples, &mut memory, room);
     held.with_reader(reader, memory)
 }
 
 // As long as something is told and samples are left, the rest of the piece is listened to. A call that tells something takes a sample, so
 // that the calls end before they are as many as there is room for samples.
-fn hear_all(reader: Reader, samples: &[u8], memory: &mut [u8], room: usize) -> Reader
+fn hear_all(
+    to: &impl Print,
+    reader: Reader,
+    samples: &[u8],
+    memory: &mut [u8],
+    room: usize,
+) -> Reader
     requires { room ≤ length memory.old }
 {
     let mut reader = reader;
@@ -103,7 +116,7 @@ fn hear_all(reader: Reader, samples: &[u8], memory: &mut [u8], room: usize) -> R
         let next = heard.reader;
         reader = next;
         at = behind(at, heard.taken, samples.len());
-        let is_told = write_answer(answer, heard.taken, memory);
+        let is_told = write_answer(to, answer, heard.taken, memory);
         if !(is_told & (at < samples.len())) {
             return reader;
         }
@@ -132,42 +145,48 @@ fn behind(at: usize, taken: usize, end: usize) -> usize {
 }
 
 // `heard N TAKEN FOUND EXPECTED`, and with a frame what is told of it. Answers whether something was told.
-fn write_answer(answer: Listening, taken: usize, memory: &[u8]) -> bool {
+fn write_answer(to: &impl Print, answer: Listening, taken: usize, memory: &[u8]) -> bool {
     let event = answer.event();
     let checksums = event.checksums();
     if answer.number() != 0 {
-        write_heard(answer.number(), taken, checksums);
+        write_heard(to, answer.number(), taken, checksums);
         return false;
     }
     match event {
         Event::Nothing => {
-            write_heard(0, taken, checksums);
+            write_heard(to, 0, taken, checksums);
             false
         }
         Event::Frame(heard) => {
-            write_frame(heard, taken, memory, checksums);
+            write_frame(to, heard, taken, memory, checksums);
             true
         }
         _ => {
-            write_heard(event.number(), taken, checksums);
+            write_heard(to, event.number(), taken, checksums);
             true
         }
     }
 }
 
 // `heard N TAKEN FOUND EXPECTED`
-fn write_heard(number: u8, taken: usize, checksums: ChecksumPair) {
+fn write_heard(to: &impl Print, number: u8, taken: usize, checksums: ChecksumPair) {
     let numbers = [
         number as u64,
         taken as u64,
         checksums.found as u64,
         checksums.expected as u64,
     ];
-    line::write(b"heard", &numbers);
+    line::write(to, b"heard", &numbers);
 }
 
 // `heard 0 TAKEN SINCE RESERVED PREAMBLE NULL SYNC STARTUP ID WORDS CHECKSUM CYCLE BYTES FOUND EXPECTED`
-fn write_frame(heard: Heard, taken: usize, memory: &[u8], checksums: ChecksumPair) {
+fn write_frame(
+    to: &impl Print,
+    heard: Heard,
+    taken: usize,
+    memory: &[u8],
+    checksums: ChecksumPair,
+) {
     let header = heard.header;
     let numbers = [0, taken as u64, heard.since as u64];
     let mut line = [0u8; line::ROOM];
@@ -176,7 +195,7 @@ fn write_frame(heard: Heard, taken: usize, memory: &[u8], checksums: ChecksumPai
     let at = frames::put_fields(&mut line, at, header);
     let at = line::hex(&mut line, at, front(memory, heard.size));
     let at = frames::put_checksums(&mut line, at, checksums);
-    line::end(&mut line, at);
+    line::end(to, &mut line, at);
 }
 
 fn front(memory: &[u8], size: usize) -> &[u8] {

@@ -42,26 +42,26 @@ pub fn is_right(item: Item) -> bool {
 }
 
 // Plays the command that gives a reader and has this letter; any other leaves the reader as it is.
-pub fn play(letter: u8, item: Item, reader: Reader) -> Reader {
+pub fn play(to: &impl Print, letter: u8, item: Item, reader: Reader) -> Reader {
     match letter {
-        b'H' => open_reader(item[CHANNEL]),
-        b'V' => put(item),
+        b'H' => open_reader(to, item[CHANNEL]),
+        b'V' => put(to, item),
         _ => reader,
     }
 }
 
 // `H`: `reader N`
-fn open_reader(channel: u8) -> Reader {
+fn open_reader(to: &impl Print, channel: u8) -> Reader {
     let opened = wire_reader::open_reader(channel);
     let answer = opened.answer;
     let numbers = [answer.number() as u64];
-    line::write(b"reader", &numbers);
+    line::write(to, b"reader", &numbers);
     opened.reader
 }
 
 // `V`: channel switch, samples, seen, voted switch, counter, realigns switch, timer, phase, number, value, count, since.
-fn put(item: Item) -> Reader {
-    line::write_words(b"reader put");
+fn put(to: &impl Print, item: Item) -> Reader {
+    line::write_words(to, b"reader put");
     let samples = item[SAMPLES];
     Reader {
         channel: statuses::channel_of(item[CHANNEL]),
@@ -96,7 +96,7 @@ fn phase_of(phase: u8, number: u8, value: u8) -> Phase {
 }
 
 // `Z`: `reader CHANNEL SAMPLES SEEN VOTED COUNTER REALIGNS TIMER PHASE NUMBER VALUE COUNT SINCE MEMORY`
-pub fn show(reader: Reader, memory: &[u8]) {
+pub fn show(to: &impl Print, reader: Reader, memory: &[u8]) {
     let channel = reader.channel;
     let clock = reader.clock;
     let phase = reader.phase;
@@ -123,7 +123,7 @@ pub fn show(reader: Reader, memory: &[u8]) {
     let at = line::put(&mut line, 0, b"reader");
     let at = line::decimals(&mut line, at, &numbers);
     let at = line::hex(&mut line, at, memory);
-    line::end(&mut line, at);
+    line::end(to, &mut line, at);
 }
 
 // The phase, and its two numbers, which are 0 where it has none.

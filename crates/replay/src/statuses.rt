@@ -48,8 +48,8 @@ pub fn is_right(item: Item) -> bool {
 
 // `T`: settings, channel switch, slot, cycle, marks, reason, kept switch, the kept frame's flags, ID, words, checksum and cycle, the
 // sheet's mark, and the two checksums.
-pub fn put(item: Item) -> Status {
-    line::write_words(b"status put");
+pub fn put(to: &impl Print, item: Item) -> Status {
+    line::write_words(to, b"status put");
     let marks = item[MARKS];
     Status {
         settings: sheet::of(item, MARK),
@@ -113,7 +113,7 @@ fn kept_of(item: Item) -> Kept {
 }
 
 // `status F1 .. F11 SENDS CHANNEL SLOT CYCLE MARKS REASON KEPT FLAGS ID WORDS CHECKSUM CYCLE MARK FOUND EXPECTED`
-pub fn show(status: Status) {
+pub fn show(to: &impl Print, status: Status) {
     let channel = status.channel;
     let reason = status.reason;
     let kept = status.kept;
@@ -131,7 +131,7 @@ pub fn show(status: Status) {
     let at = put_kept(&mut line, at, kept);
     let at = sheet::put_mark(&mut line, at, status.settings);
     let at = frames::put_checksums(&mut line, at, status.checksums);
-    line::end(&mut line, at);
+    line::end(to, &mut line, at);
 }
 
 fn number_of(reason: Reason) -> u64 {

@@ -3,6 +3,8 @@
 //
 // For the crates above: `Settings`, which holds any numbers, a name for each field, and `first_out_of_range`, by which opening a
 // slot refuses a sheet; `Mark`, which measurements and reports carry.
+#![tactic(auto)]
+
 ghost use Rattle.std.specs.Prelude.{◌≡◌, ◌<◌, ◌≤◌};
 ghost use Rattle.settings.specs.Sheet.{field_count, within, no_settings, field as sheet_field, first_out_of_range, decoding_correction, delay_a, delay_b, sync_id_limit, offset_limit, rate_limit, drift_damping, external_offset_unit, external_rate_unit, static_payload_words, static_slots};
 
@@ -16,7 +18,7 @@ fn field_count() -> usize
     FIELDS
 }
 
-#[derive(Drop)]
+#[derive(Clone, Copy)]
 pub struct Settings {
     // Field 1 stands first.
     pub fields: [u32; FIELDS],
@@ -27,10 +29,10 @@ pub struct Settings {
 
 // The mark of a sheet: any number. It has no range, and nothing is worked out with it; it is a type so that no limit or delay can stand
 // in its place.
-#[derive(Drop)]
+#[derive(Clone, Copy)]
 pub struct Mark(pub u32);
 
-#[derive(Drop)]
+#[derive(Clone, Copy)]
 pub struct Range {
     pub lowest: u32,
     pub highest: u32,

@@ -1,5 +1,7 @@
 // What 01 says of the settings sheet. `specs/` states the claims, `proofs/` proves them, and this file has their witnesses: short functions
 // over `settings`, proved from its contracts alone.
+#![tactic(auto)]
+
 ghost use Rattle.settings_claims.specs.Sheet.{FieldTold};
 
 use settings::{Mark, Settings};

@@ -6,6 +6,8 @@
 // a frame misses or that it passes all, `Status::none`, which is all zeros, and `is_static`.
 //
 // Flags are joined by `&` and `|`: the prover follows them more easily than `&&` and `||`.
+#![tactic(auto)]
+
 mod content;
 mod opening;
 mod sound;

@@ -8,7 +8,7 @@ use base_types::{Channel, Cycle, Named, Slot};
 use settings::Settings;
 
 // What opening a slot answers: that it is open, or why it is not.
-#[derive(Drop)]
+#[derive(Clone, Copy)]
 pub enum Opening {
     Opened,
     // With the number of the first field out of range.
@@ -43,7 +43,7 @@ impl Opening {
     }
 }
 
-#[derive(Drop)]
+#[derive(Clone, Copy)]
 pub struct Opened {
     pub answer: Opening,
     pub status: Status,

@@ -31,7 +31,7 @@ pub fn is_sound(status: Status) -> bool
     if is_second & !status.valid {
         return false;
     }
-    let tells_none = checksums.is_none_lem();
+    let tells_none = checksums.is_none();
     if !tells_none & !status.syntax_error {
         return false;
     }

@@ -8,7 +8,7 @@ use header::Header;
 use settings::Settings;
 
 // The test that a frame misses, of 01's (a) to (e).
-#[derive(Drop)]
+#[derive(Clone, Copy)]
 pub enum Miss {
     // (a)
     OtherId,
@@ -23,14 +23,14 @@ pub enum Miss {
 }
 
 // What the tests of a frame give: it passes all, or this is the first that it misses.
-#[derive(Drop)]
+#[derive(Clone, Copy)]
 pub enum Tested {
     Passed,
     Missed(Miss),
 }
 
 // The content reason that a slot keeps, or none.
-#[derive(Drop)]
+#[derive(Clone, Copy)]
 pub enum Reason {
     NoReason,
     // (a) to (e). Only `Tested::reason` makes one of what the tests give.
@@ -40,13 +40,13 @@ pub enum Reason {
 }
 
 // The header of the first frame that missed no test, or none.
-#[derive(Drop)]
+#[derive(Clone, Copy)]
 pub enum Kept {
     Nothing,
     Frame(Header),
 }
 
-#[derive(Drop)]
+#[derive(Clone, Copy)]
 pub struct Status {
     pub settings: Settings,
     pub channel: Channel,

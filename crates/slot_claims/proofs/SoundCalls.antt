@@ -17,7 +17,6 @@ use Rattle.slot.specs.declared.status.Tested.{Tested}
 use Rattle.slot.specs.declared.status.Tested.TheVariants as tested
 use Rattle.slot.specs.declared.status.Reason.{Reason}
 use Rattle.slot.specs.declared.status.Reason.TheVariants as reason
-use Rattle.slot.specs.declared.status.Kept.TheVariants as kept
 use Rattle.slot.specs.declared.status.Status.{Status}
 use Rattle.slot.specs.Judging.{Place, place_of, place_by, fresh, no_status, first_miss, is_passed, reason_by, is_reason, is_second_good_frame, is_frame, has_arrival}
 use Rattle.slot.specs.Opening.{opening_refusals, Told}

@@ -65,7 +65,7 @@ left s (e ∷ events) = left (left_by s e) events
 
 -- there is a result that the statement allows
 judged : (s : Status) (e : Event) → (r : Judged) × EventSays s e r
-judged s e = cases (sound s) (λ good. (_, laws.event-recorded s e (after s e) good refl)) (λ bad. (_, laws.event-refused s e bad))
+judged s e = cases (sound s) (λ good. (_, laws.event_recorded s e (after s e) good refl)) (λ bad. (_, laws.event_refused s e bad))
 
 left_calls : (s : Status) (events : List Event) → Calls s events (left s events)
 unfolding left
@@ -79,7 +79,7 @@ left_unsound : (s : Status) (events : List Event) → sound s ≡ false → left
 unfolding left
 left_unsound s [] bad = refl
 left_unsound s (e ∷ events) bad =
-    let same : left_by s e ≡ s = sym (laws.event-refused s e bad).leaves in
+    let same : left_by s e ≡ s = sym (laws.event_refused s e bad).leaves in
     ap (λ (x : Status). left x events) same ∙ left_unsound s events bad
 
 pub was_played : (settings : Settings) (channel : ℕ) (slot : Slot) (cycle : Cycle) (r : Opened) (events : List Event) (s : Status)

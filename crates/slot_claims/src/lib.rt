@@ -1,5 +1,7 @@
 // What follows from the slot's rules. `specs/` states the claims, `proofs/` proves them, and this file has their witnesses:
 // short functions over the entries, proved from their contracts alone.
+#![tactic(auto)]
+
 ghost use Rattle.std.specs.Prelude.{◌≡◌, true, false, ◌↔◌, ◌+◌, ◌-◌, ◌≤◌, min};
 ghost use Rattle.slot_events.specs.Effect.{arrival, boundary_activity, own_sending};
 ghost use Rattle.slot_events.specs.Events.{left_by};

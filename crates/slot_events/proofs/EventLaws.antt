@@ -3,7 +3,7 @@ use Prim.Native.Nat.{ℕ}
 use mathlib.Core.Path.{◌≡◌, refl, sym, ap, subst, ◌∙◌}
 use mathlib.Core.Bool.{Bool, true, false, not}
 use mathlib.Core.List.{List}
-use borrow.Author.Tests.{eq-eqb, ne_eqb, not-true, not-false}
+use borrow.Author.Tests.{eq-eqb, ne_eqb}
 use Rattle.refusal.specs.Refusal.{first, if_accepted}
 use Rattle.refusal.proofs.FirstLaws.{start, passed, first_at, first_none_left, if_accepted_lem}
 use Rattle.base_types.specs.declared.channel.Channel.{Channel}
@@ -80,10 +80,10 @@ event_recorded s e t h same =
     record { answers = sym n; leaves = same ∙ sym (ap (λ (k : ℕ). if_accepted k (after s e) s) n) }
 
 -- the same, by what `is_sound` answered and by what is returned
-pub refused_so : (s : Status) (e : Event) {b : Bool} {r : Judged} → b ≡ sound s → not b ≡ true
+pub refused_so : (s : Status) (e : Event) {b : Bool} {r : Judged} → b ≡ sound s → b ≡ false
     → r ≡ record { answer = recording.NotSound; status = s } → EventSays s e r
-refused_so s e {b = b} asked test is = subst (EventSays s e) (sym is) (event_refused s e (sym asked ∙ not-true b test))
+refused_so s e asked test is = subst (EventSays s e) (sym is) (event_refused s e (sym asked ∙ test))
 
-pub recorded_so : (s : Status) (e : Event) {b : Bool} {t : Status} {r : Judged} → b ≡ sound s → not b ≡ false
+pub recorded_so : (s : Status) (e : Event) {b : Bool} {t : Status} {r : Judged} → b ≡ sound s → b ≡ true
     → r ≡ record { answer = recording.Recorded; status = t } → t ≡ after s e → EventSays s e r
-recorded_so s e {b = b} {t = t} asked test is same = subst (EventSays s e) (sym is) (event_recorded s e t (sym asked ∙ not-false b test) same)
+recorded_so s e {t = t} asked test is same = subst (EventSays s e) (sym is) (event_recorded s e t (sym asked ∙ test) same)

@@ -2,6 +2,8 @@
 //
 // Entries: `arrived` on a status and bytes, `boundary` and `sent` on a status. Each takes whatever comes and gives an answer and
 // a status.
+#![tactic(auto)]
+
 ghost use Rattle.std.specs.Prelude.{◌≡◌};
 ghost use Rattle.slot_events.specs.declared.Recording.TheVariants.{Recorded, NotSound};
 ghost use Rattle.slot_events.specs.Effect.{arrival, boundary_activity, own_sending, kept_by, of_refused, of_accepted, reason_in, checksums_in, joined};
@@ -13,7 +15,7 @@ use header::Header;
 use slot::{Kept, Reason, Status, Tested};
 
 // What an event answers: that it is recorded, or that the status is not sound.
-#[derive(Drop)]
+#[derive(Clone, Copy)]
 pub enum Recording {
     Recorded,
     NotSound,
@@ -31,7 +33,7 @@ impl Recording {
     }
 }
 
-#[derive(Drop)]
+#[derive(Clone, Copy)]
 pub struct Judged {
     pub answer: Recording,
     pub status: Status,

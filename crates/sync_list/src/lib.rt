@@ -3,6 +3,8 @@
 //
 // For the clock: `SyncList` with `empty`, `has`, `is_full_for` and `with`. Each takes any list, also one whose count is above its rows.
 // Soundness is in `list_soundness`, and the values of a list in `list_values`.
+#![tactic(auto)]
+
 mod list;
 mod row;
 

@@ -16,7 +16,7 @@ fn row_count() -> usize
     ROWS
 }
 
-#[derive(Drop)]
+#[derive(Clone, Copy)]
 pub struct SyncList {
     pub rows: [Row; ROWS],
     // The first so many rows are listed. Those behind them say nothing.

@@ -6,20 +6,20 @@ use base_types::{Channel, SignedMicrotick, Slot};
 use correction::{Deviations, Value};
 use settings::Mark;
 
-#[derive(Drop)]
+#[derive(Clone, Copy)]
 pub struct Measurement {
     pub deviation: SignedMicrotick,
     // That of the settings that it was taken under.
     pub mark: Mark,
 }
 
-#[derive(Drop)]
+#[derive(Clone, Copy)]
 pub enum Measured {
     Nothing,
     Is(Measurement),
 }
 
-#[derive(Drop)]
+#[derive(Clone, Copy)]
 pub struct Row {
     pub id: Slot,
     pub on_a: Measured,

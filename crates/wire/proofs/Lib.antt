@@ -1,3 +1,3 @@
 pub mod PackingLaws
-pub mod AnswerLaws
 pub mod EncodeLaws
+pub mod AnswerLaws

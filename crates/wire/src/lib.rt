@@ -1,6 +1,8 @@
 // Frames as they go on the wire (document 02, C-11): the bits that are sent for a frame, packed into lent bytes.
 //
 // Entry: `encode` on a channel number, a frame's bytes, a start length and lent output. What the bits are stands in specs/Stream.antt.
+#![tactic(auto)]
+
 mod packing;
 
 ghost use Rattle.std.specs.Prelude.{◌≡◌};
@@ -12,7 +14,7 @@ use checksum::ChecksumPair;
 use frame::Reading;
 
 // What encoding answers: the number of bits, or why there are none. Bytes that are not a frame come with reading's own answer.
-#[derive(Drop)]
+#[derive(Clone, Copy)]
 pub enum Encoding {
     Encoded(usize),
     NotAFrame(Reading),

@@ -12,7 +12,7 @@ const BYTE_START: u32 = 0b10_0000_0000;
 const END: u32 = 0b01_0000_0000;
 
 // Bits that have been taken and not been written yet.
-#[derive(Drop)]
+#[derive(Clone, Copy)]
 struct Pending {
     // Their number: they are its low bits, the first one highest. What stands above them is not looked at.
     held: u32,

@@ -20,7 +20,7 @@ use Rattle.wire.specs.declared.Encoding.TheVariants as encoding
 use Rattle.wire.specs.Stream.{shortest_start, longest_start, stream}
 use Rattle.wire.specs.Packing.{packed_size, most_packed}
 use Rattle.wire.specs.Refusals.{not_a_start_length, output_too_short}
-use Rattle.wire.specs.Encode.{Told, told, own_refusals, refusals, refusal, rule, EncodeSays}
+use Rattle.wire.specs.Encode.{Told, told, own_refusals, refusal, rule, EncodeSays}
 use Rattle.wire.proofs.PackingLaws.{length-stream}
 use Rattle.wire.proofs.EncodeLaws.{not_a_frame, past-reading}
 use Rattle.wire_claims.specs.Answers.{EncodeOne, EncodeInOrder, EncodeRefused, EncodeAsRead, RoomForAll}

@@ -1,5 +1,7 @@
 // What follows from the rules of the wire's bits. `specs/` states the claims, `proofs/` proves them, and this file has their
 // witnesses: short functions over the entry, proved from its contract alone.
+#![tactic(auto)]
+
 ghost use Rattle.std.specs.Prelude.{◌≡◌, true, ◌↔◌};
 ghost use Rattle.wire_claims.specs.Answers.{AsReadAnswers, NumberTold};
 ghost use Rattle.wire_claims.specs.Streams.{EncodedBits, Encodable, ToldApart};

@@ -16,7 +16,7 @@ use checksum::ChecksumPair;
 use frame::Reading;
 
 // What comes of a strobed bit. The memory is the caller's.
-#[derive(Drop)]
+#[derive(Clone, Copy)]
 pub(crate) struct Decoded {
     pub phase: Phase,
     pub count: u16,
@@ -25,7 +25,7 @@ pub(crate) struct Decoded {
 }
 
 // What stands behind a byte.
-#[derive(Drop)]
+#[derive(Clone, Copy)]
 pub(crate) enum After {
     // With the two checksums, which differ.
     HeaderWrong(ChecksumPair),

@@ -9,7 +9,7 @@ use header::Header;
 
 // A frame that was heard: its header, its size, and how many samples lie between its reference point and the sample that told it. Its bytes
 // are the first of the lent memory.
-#[derive(Drop)]
+#[derive(Clone, Copy)]
 pub struct Heard {
     pub header: Header,
     pub size: usize,
@@ -17,7 +17,7 @@ pub struct Heard {
 }
 
 // Nothing, a frame, or what is wrong. Bytes that are no frame come with reading's answer.
-#[derive(Drop)]
+#[derive(Clone, Copy)]
 pub enum Event {
     Nothing,
     Frame(Heard),

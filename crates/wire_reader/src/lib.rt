@@ -8,6 +8,8 @@
 // call tells something, the samples that were not taken; the reader that comes back is handed in with the next call.
 //
 // Flags are joined by `&` and `|`: the prover follows them more easily than `&&` and `||`.
+#![tactic(auto)]
+
 mod decoder;
 mod event;
 mod listening;

@@ -12,7 +12,7 @@ use crate::reader::Reader;
 use header::Header;
 
 // What listening answers: what was heard, or why nothing was listened to.
-#[derive(Drop)]
+#[derive(Clone, Copy)]
 pub enum Listening {
     Heard(Event),
     NotSound,
@@ -43,7 +43,7 @@ impl Listening {
 }
 
 // How many samples were taken, the one that told something among them, and the reader behind them.
-#[derive(Drop)]
+#[derive(Clone, Copy)]
 pub struct Listened {
     pub answer: Listening,
     pub taken: usize,

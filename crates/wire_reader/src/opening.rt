@@ -6,7 +6,7 @@ use crate::reader::Reader;
 use base_types::{Channel, Named};
 
 // What opening a reader answers: that it is open, or that the number names no channel.
-#[derive(Drop)]
+#[derive(Clone, Copy)]
 pub enum Opening {
     Opened,
     NotAChannel,
@@ -24,7 +24,7 @@ impl Opening {
     }
 }
 
-#[derive(Drop)]
+#[derive(Clone, Copy)]
 pub struct Opened {
     pub answer: Opening,
     pub reader: Reader,

@@ -5,7 +5,7 @@ ghost use Rattle.wire_reader.specs.Sound.{is_waiting, sound_phase};
 
 use header::Header;
 
-#[derive(Drop)]
+#[derive(Clone, Copy)]
 pub enum Phase {
     // In none: it waits for the channel to be idle, and then for a low bit.
     Waiting,
@@ -92,12 +92,12 @@ impl Phase {
         requires { slack < 12 }
         ensures { result ≡ sound_phase self count since slack }
     {
-        let no_bytes_lem = (count == 0) & (since == 0);
+        let no_bytes = (count == 0) & (since == 0);
         let bits = 10 * count as u32;
         match self {
-            Phase::Waiting => no_bytes_lem,
-            Phase::Start(n) => ((1 <= n) & (n <= MOST_LOW)) & no_bytes_lem,
-            Phase::FrameStart(n) => ((1 <= n) & (n <= MOST_HIGH)) & no_bytes_lem,
+            Phase::Waiting => no_bytes,
+            Phase::Start(n) => ((1 <= n) & (n <= MOST_LOW)) & no_bytes,
+            Phase::FrameStart(n) => ((1 <= n) & (n <= MOST_HIGH)) & no_bytes,
             Phase::ByteStart => {
                 ((1 <= count) & (count <= MOST_BEFORE)) & (since <= MOST_BETWEEN * bits + slack)
             }
@@ -116,7 +116,7 @@ impl Phase {
                 ((8 <= count) & (count <= Header::LONGEST_FRAME as u16))
                     & (since <= MOST_BETWEEN * bits + slack)
             }
-            Phase::EndHigh => no_bytes_lem,
+            Phase::EndHigh => no_bytes,
         }
     }
 }

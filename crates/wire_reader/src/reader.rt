@@ -12,7 +12,7 @@ use base_types::Channel;
 use bit_clock::BitClock;
 
 // What is known between two samples. The bytes so far are the first `count` of the memory that is lent with it.
-#[derive(Drop)]
+#[derive(Clone, Copy)]
 pub struct Reader {
     pub channel: Channel,
     pub clock: BitClock,
@@ -28,7 +28,7 @@ pub struct Reader {
 const IDLE_SAMPLES: u8 = 88;
 
 // What comes of a sample.
-#[derive(Drop)]
+#[derive(Clone, Copy)]
 pub(crate) struct Sampled {
     pub reader: Reader,
     pub event: Event,

@@ -1,6 +1,8 @@
 // Frames written into lent bytes (document 01, "Frame layout").
 //
 // Entry: `write` on a channel number, fields, payload and lent output. What a header is stands in the crate `header`.
+#![tactic(auto)]
+
 ghost use Rattle.std.specs.Prelude.{◌≡◌, ◌+◌, ◌≤◌, length};
 ghost use Rattle.header.specs.Layout.{most_payload};
 ghost use Rattle.writing.specs.Refusals.{bad_payload, some_not_zero, null_frame_not_empty};
@@ -12,7 +14,7 @@ use base_types::{Channel, Named};
 use header::{Fields, Header};
 
 // What writing answers: the frame's size, or why no frame was written.
-#[derive(Drop)]
+#[derive(Clone, Copy)]
 pub enum Writing {
     Written(usize),
     NotAChannel,
@@ -156,8 +158,8 @@ fn lay(channel: Channel, fields: Fields, payload: &[u8], output: &mut [u8])
 {
     let words = (payload.len() / 2) as u8;
     lent_bytes::put_number(output, header::packed(header_of(fields, words)), 5);
-    bytes::copy(payload, &mut output[5..]);
     let end = payload.len() + 5;
+    output[5..end].copy_from_slice(payload);
     let checksum = checksum::frame_checksum_on(channel, &output[0..end]);
     put_trailer(&mut output[end..], checksum);
 }

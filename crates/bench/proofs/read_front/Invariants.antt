@@ -1,0 +1,9 @@
+-- `read_front` ends: what is not read yet gets less in each turn, since a turn that reads nothing is the last.
+use Rattle.std.specs.Prelude.{◌-◌, ◌≤◌, ◌≡◌, length}
+use Rattle.bench.proofs.read_front.Given as goal
+
+abbrev pub invariant-loop-size : goal.invariant-loop-size
+invariant-loop-size g l = (l.size ≤ length l.front) × (length l.front ≡ length l.initial.front)
+
+abbrev pub decreases-loop-size : goal.decreases-loop-size
+decreases-loop-size g l = length l.front - l.size
