@@ -1,9 +1,8 @@
 -- The two channels: which number names which, and with which value the frame checksum starts on each (01, "Frame layout").
-use Rattle.std.specs.Prelude.{ℕ, Bool, not, ◌&&◌, cond, eqb}
+use Rattle.std.specs.Prelude.{ℕ, Bool, not, ◌&&◌, cond, eqb, Result, Ok, Err}
 use Rattle.base_types.specs.declared.channel.Channel.{Channel}
 use Rattle.base_types.specs.declared.channel.Channel.TheVariants.{A, B}
-use Rattle.base_types.specs.declared.channel.Named.{Named}
-use Rattle.base_types.specs.declared.channel.Named.TheVariants.{Is, NotAChannel}
+use Rattle.base_types.specs.declared.channel.NotAChannel.{NotAChannel}
 
 -- Refusal 1: "channel is not 0 (A) or 1 (B)".
 unfoldable pub not_a_channel : ℕ → Bool
@@ -23,6 +22,10 @@ abbrev pub start_of : Channel → ℕ
 start_of A = 0xFEDCBA
 start_of B = 0xABCDEF
 
+-- The number of a refusal that has just one cause.
+abbrev pub refusal_number : NotAChannel → ℕ
+refusal_number refusal = 1
+
 -- What a number names: its channel, or none.
-unfoldable pub named_by : ℕ → Named
-named_by number = cond (not_a_channel number) NotAChannel (Is (channel_of number))
+unfoldable pub named_by : ℕ → Result Channel NotAChannel
+named_by number = cond (not_a_channel number) (Err (record {})) (Ok (channel_of number))

@@ -1,20 +1,54 @@
 // The two channels, and what a number names.
-ghost use Rattle.std.specs.Prelude.{◌≡◌, ◌<◌, ◌^◌};
+ghost use Rattle.std.specs.Prelude.{◌≡◌, ◌<◌, ◌^◌, Ok};
 ghost use Rattle.base_types.specs.declared.channel.Channel.TheVariants.{A as Channel-as-A, B as Channel-as-B};
-ghost use Rattle.base_types.specs.declared.channel.Named.TheVariants.{Is};
-ghost use Rattle.base_types.specs.Channel.{number_of, start_of, named_by};
+ghost use Rattle.base_types.specs.Channel.{number_of, start_of, named_by, refusal_number};
 
-#[derive(Clone, Copy)]
+use refusal::Refusal;
+
+#[derive(Clone, Copy, PartialEq, Eq)]
 pub enum Channel {
     A,
     B,
 }
 
-// What a number names.
+// Refusal 1: a number that names no channel.
 #[derive(Clone, Copy)]
-pub enum Named {
-    Is(Channel),
-    NotAChannel,
+pub struct NotAChannel;
+
+impl Refusal for NotAChannel {
+    ghost number_of = { refusal_number };
+
+    fn number(self) -> u8 {
+        1
+    }
+}
+
+// Which channel a number names is said here and in the conversion back, and nowhere else.
+impl TryFrom<u8> for Channel {
+    type Error = NotAChannel;
+
+    ghost try_from_gives = { λ number named. named ≡ named_by number };
+
+    #[tactic(auto, unfolding(crate::specs::Channel::named_by, crate::specs::Channel::not_a_channel, crate::specs::Channel::channel_of))]
+    fn try_from(number: u8) -> Result<Channel, NotAChannel> {
+        match number {
+            0 => Ok(Channel::A),
+            1 => Ok(Channel::B),
+            _ => Err(NotAChannel),
+        }
+    }
+}
+
+impl From<Channel> for u8 {
+    ghost from_gives = { λ channel number. (number ≡ number_of channel) × (named_by number ≡ Ok channel) };
+
+    #[tactic(auto, unfolding(crate::specs::Channel::named_by, crate::specs::Channel::not_a_channel, crate::specs::Channel::channel_of))]
+    fn from(channel: Channel) -> u8 {
+        match channel {
+            Channel::A => 0,
+            Channel::B => 1,
+        }
+    }
 }
 
 impl Channel {
@@ -23,18 +57,11 @@ impl Channel {
 
     pub const START_B: u32 = 0xAB_CDEF;
 
-    // Each returns a constant, which no contract can name, and so holds it to its rule (DECISIONS 108).
-    fn start_a() -> u32
-        ensures { result ≡ start_of Channel-as-A }
-    {
-        Channel::START_A
-    }
-
-    fn start_b() -> u32
-        ensures { result ≡ start_of Channel-as-B }
-    {
-        Channel::START_B
-    }
+    // Both constants are their rule's (DECISIONS 108).
+    fn constants()
+        ensures a { Channel.START_A ≡ start_of Channel-as-A }
+        ensures b { Channel.START_B ≡ start_of Channel-as-B }
+    {}
 
     pub fn start(self) -> u32
         ensures { (result ≡ start_of self) × (result < 2 ^ 24) }
@@ -42,30 +69,6 @@ impl Channel {
         match self {
             Channel::A => Channel::START_A,
             Channel::B => Channel::START_B,
-        }
-    }
-
-    // A channel is a number here and in `number`, and nowhere else. Refusal 1 is that the number names none.
-    pub fn named(number: u8) -> Named
-        ensures { result ≡ named_by number }
-    {
-        if number == 0 {
-            return Named::Is(Channel::A);
-        }
-        if number == 1 {
-            return Named::Is(Channel::B);
-        }
-        Named::NotAChannel
-    }
-
-    // The number that names this channel.
-    pub fn number(self) -> u8
-        ensures value { result ≡ number_of self }
-        ensures result_value { named_by result ≡ Is self }
-    {
-        match self {
-            Channel::A => 0,
-            Channel::B => 1,
         }
     }
 }

@@ -2,18 +2,16 @@
 ghost use Rattle.std.specs.Prelude.{◌≡◌};
 ghost use Rattle.base_types.specs.Cycle.{highest_cycle, cycle_too_high, is_odd};
 
-#[derive(Clone, Copy)]
+#[derive(Clone, Copy, PartialEq, Eq)]
 pub struct Cycle(pub u8);
 
 impl Cycle {
     pub const HIGHEST: u8 = 63;
 
-    // Returns the constant, which no contract can name, and so holds it to its rule (DECISIONS 108).
-    fn highest() -> u8
-        ensures { result ≡ highest_cycle }
-    {
-        Cycle::HIGHEST
-    }
+    // The constant is its rule's (DECISIONS 108).
+    fn constants()
+        ensures { Cycle.HIGHEST ≡ highest_cycle }
+    {}
 
     // Refusal 11.
     pub fn is_too_high(self) -> bool

@@ -9,7 +9,7 @@ mod cycle;
 mod id;
 mod microtick;
 
-pub use channel::{Channel, Named};
+pub use channel::{Channel, NotAChannel};
 pub use cycle::Cycle;
 pub use id::Slot;
 pub use microtick::{Microtick, SignedMicrotick};

@@ -3,7 +3,7 @@
 // The line is made by the library `bench_line`, by the front of the input alone; the program only reads and writes.
 #![tactic(auto)]
 
-ghost use Rattle.std.specs.Prelude.{◌≤◌, ◌≡◌, length, take, IfOk};
+ghost use Rattle.std.specs.Prelude.{◌≤◌, ◌≡◌, length, take, IfOk, IfSome};
 ghost use Rattle.bench_line.specs.Line.{front as line_front, longest};
 ghost use Rattle.bench.specs.Program.{Answers};
 
@@ -21,11 +21,13 @@ fn main(rt: HostRuntime) -> io::Result<()> {
     rt.write_all(&line[0..end])
 }
 
-// Reads until the front is full or the input ends, and answers how many bytes that was.
-fn read_front(input: &mut impl Read, front: &mut [u8]) -> io::Result<usize>
-    ensures { IfOk result (λ size. size ≤ length front.old) }
+// Reads until the front is full or the input ends, and answers how many bytes that was: the first ones of a reader whose bytes are known.
+fn read_front<R: Read>(input: &mut R, front: &mut [u8]) -> io::Result<usize>
+    ensures upper_bound { IfOk result (λ size. size ≤ length front.old) }
+    ensures bytes { IfOk result (λ size. IfSome (R.remaining input.old) (λ known. take size front.new ≡ take (length front.old) known)) }
 {
     let mut size = 0;
+    // (No `for`: a read may give fewer bytes than there is room for.)
     while size < front.len() {
         let read = input.read(&mut front[size..])?;
         if read == 0 {
@@ -37,7 +39,8 @@ fn read_front(input: &mut impl Read, front: &mut [u8]) -> io::Result<usize>
 }
 
 // What is to be written for what was read: puts it into the line, and answers its size. The first `size` bytes of the front were
-// read; that there is room for the front and for the longest line is required, since with less some input would get the line of another.
+// read; that there is room for the front and for the longest line is required, since with less some input would get the line of another. (Front
+// and size: the part that was read would not say that the front has room.)
 fn answer(front: &[u8], size: usize, line: &mut [u8]) -> usize
     requires { (length front.now ≡ line_front) × (size ≤ length front.now) × (length line.old ≡ longest) }
     ensures answers { Answers (take size front.now) (take result line.new) }

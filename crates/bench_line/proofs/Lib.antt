@@ -1,3 +1,1 @@
-mod PuttingLaws
 mod DecimalLaws
-mod LineLaws

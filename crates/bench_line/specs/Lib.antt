@@ -1,3 +1,3 @@
 pub mod Decimal
 pub mod Line
-pub mod Putting
+pub mod Room

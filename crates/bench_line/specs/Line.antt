@@ -4,8 +4,7 @@ use Rattle.header.specs.Layout.{longest_frame}
 use Rattle.refusal.specs.Refusal.{if_accepted}
 use Rattle.checksum.specs.declared.pair.ChecksumPair.{ChecksumPair}
 use Rattle.header.specs.declared.Header.{Header}
-use Rattle.frame.specs.declared.Reading.{Reading}
-use Rattle.frame.specs.Read.{Told, told, refused, tells_checksums, rule}
+use Rattle.frame.specs.Read.{Told, Reading, told, refused, tells_checksums, rule}
 use Rattle.lent_bytes.specs.Over.{over}
 use Rattle.bench_line.specs.Decimal.{decimal}
 

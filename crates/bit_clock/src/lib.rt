@@ -4,14 +4,13 @@
 // takes whatever comes.
 #![tactic(auto)]
 
-ghost use Rattle.std.specs.Prelude.{◌≡◌, cond, suc, min, ◌<◌};
-ghost use Rattle.division.specs.Bits.{bit as bits_bit};
-ghost use Rattle.bit_clock.specs.Clock.{remembered, votes, vote, falls, strobes, after as clock_after, at_first, fresh_clock, no_clock, sound_clock};
+ghost use Rattle.std.specs.Prelude.{◌≡◌};
+ghost use Rattle.bit_clock.specs.Clock.{votes, vote, falls, strobes, after as clock_after, at_first, fresh_clock, no_clock, sound_clock};
 
 // What is remembered from one sample to the next.
 #[derive(Clone, Copy)]
 pub struct BitClock {
-    // The last four samples. Those that have not come are low.
+    // The last four samples. Those that have not come are low. (No array: the rule names each, and an index would say less.)
     pub oldest: bool,
     pub older: bool,
     pub newer: bool,
@@ -31,6 +30,9 @@ const REMEMBERED: u8 = 4;
 
 // The counter begins again behind this.
 const SAMPLES_PER_BIT: u32 = 8;
+
+// A falling edge counts as 1, and the sample behind it as this.
+const BEHIND_EDGE: u32 = 2;
 
 // Where a bit is strobed.
 const STROBE: u32 = 5;
@@ -53,13 +55,12 @@ impl BitClock {
     pub fn is_sound(self) -> bool
         ensures { result ≡ sound_clock self }
     {
-        let in_range = (self.seen <= REMEMBERED)
-            & ((1 <= self.counter) & (self.counter <= SAMPLES_PER_BIT));
+        let in_range = (self.seen <= REMEMBERED) & (1..=SAMPLES_PER_BIT).contains(&self.counter);
         let not_come = !self.oldest
             & (((2 < self.seen) | !self.older)
                 & (((1 < self.seen) | !self.newer) & ((0 < self.seen) | !self.newest)));
         let nothing_voted = !self.voted & ((self.counter == 1) & !self.realigns);
-        in_range & ((self.seen == REMEMBERED) | (not_come & nothing_voted))
+        in_range & (self.votes() | (not_come & nothing_voted))
     }
 
     // Whether the next sample has a voted value.
@@ -73,30 +74,32 @@ impl BitClock {
     pub fn vote(self, high: bool) -> bool
         ensures { result ≡ vote self high }
     {
-        2 < one(self.oldest) + one(self.older) + one(self.newer) + one(self.newest) + one(high)
+        2 < u8::from(self.oldest)
+            + u8::from(self.older)
+            + u8::from(self.newer)
+            + u8::from(self.newest)
+            + u8::from(high)
     }
 
     // Whether the next sample, with this voted value, is a falling edge that sets the counter anew.
     fn falls(self, v: bool) -> bool
         ensures { result ≡ falls self v }
     {
-        (self.seen == REMEMBERED) & (!v & (self.voted & self.realigns))
+        self.votes() & (!v & (self.voted & self.realigns))
     }
 
     // Whether a bit, the voted value, is strobed in the next sample.
     pub fn strobes(self, v: bool) -> bool
         ensures { result ≡ strobes self v }
     {
-        (self.seen == REMEMBERED)
-            & (!((self.seen == REMEMBERED) & (!v & (self.voted & self.realigns)))
-                & (self.counter == STROBE))
+        self.votes() & (!self.falls(v) & (self.counter == STROBE))
     }
 
     // What is remembered after a sample with this voted value. `in_byte` tells that a bit strobed in it is one of a byte's eight.
     pub fn after(self, in_byte: bool, high: bool, v: bool) -> BitClock
         ensures { result ≡ clock_after self in_byte high v }
     {
-        let votes = self.seen == REMEMBERED;
+        let votes = self.votes();
         let falls = self.falls(v);
         let strobes = self.strobes(v);
         BitClock {
@@ -104,13 +107,15 @@ impl BitClock {
             older: self.newer,
             newer: self.newest,
             newest: high,
-            seen: one_more(self.seen),
-            voted: if_bit(votes, v, self.voted),
-            counter: if_number(
-                votes,
-                if_number(falls, 2, self.counter % SAMPLES_PER_BIT + 1),
-                self.counter,
-            ),
+            seen: self.seen.saturating_add(1).min(REMEMBERED),
+            voted: if votes { v } else { self.voted },
+            counter: if falls {
+                BEHIND_EDGE
+            } else if votes {
+                self.counter % SAMPLES_PER_BIT + 1
+            } else {
+                self.counter
+            },
             realigns: !falls & ((strobes & (v & !in_byte)) | self.realigns),
         }
     }
@@ -130,32 +135,4 @@ fn at_first(counter: u32) -> BitClock
         counter,
         realigns: false,
     }
-}
-
-fn one(set: bool) -> u8
-    ensures { (result ≡ bits_bit set) × (result < 2) }
-{
-    if set { 1 } else { 0 }
-}
-
-// One more sample that has come, up to those that are remembered.
-fn one_more(seen: u8) -> u8
-    ensures { result ≡ min remembered (suc seen) }
-{
-    if seen < REMEMBERED {
-        return seen + 1;
-    }
-    REMEMBERED
-}
-
-fn if_bit(test: bool, this: bool, other: bool) -> bool
-    ensures { result ≡ cond test this other }
-{
-    if test { this } else { other }
-}
-
-fn if_number(test: bool, this: u32, other: u32) -> u32
-    ensures { result ≡ cond test this other }
-{
-    if test { this } else { other }
 }

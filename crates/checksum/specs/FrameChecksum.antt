@@ -1,10 +1,15 @@
 -- The entry `frame_checksum`: what it answers for a channel number and bytes.
-use Rattle.std.specs.Prelude.{ℕ, ◌≡◌, List, [], ◌∷◌}
+use Rattle.std.specs.Prelude.{ℕ, ◌≡◌, List, [], ◌∷◌, Result}
+use Rattle.std.specs.Result.{result_unwrap_or}
 use Rattle.refusal.specs.Refusal.{Line, ◌when◌, first, if_accepted}
-use Rattle.checksum.specs.declared.Checksum.{Checksum}
-use Rattle.checksum.specs.declared.Checksum.TheVariants.{Value, NotAChannel}
-use Rattle.base_types.specs.Channel.{not_a_channel, channel_of}
+use Rattle.refusal.specs.Answer.{number_in}
+use Rattle.base_types.specs.declared.channel.NotAChannel.{NotAChannel}
+use Rattle.base_types.specs.Channel.{not_a_channel, channel_of, refusal_number}
 use Rattle.checksum.specs.Checksums.{frame_checksum}
+
+-- An answer is the checksum, or refusal 1.
+abbrev pub Checksum : Type 0
+Checksum = Result ℕ NotAChannel
 
 -- What an answer says in 01's numbers: the refusal number, 0 for none, and the checksum, 0 with a refusal.
 pub record Told : Type 0 where
@@ -12,8 +17,7 @@ pub record Told : Type 0 where
   pub value : ℕ
 
 abbrev pub told : Checksum → Told
-told (Value v) = record { number = 0; value = v }
-told NotAChannel = record { number = 1; value = 0 }
+told answer = record { number = number_in refusal_number answer; value = result_unwrap_or answer 0 }
 
 -- The refusals of the entry, in their order.
 abbrev pub refusals : ℕ → List Line

@@ -11,39 +11,10 @@ ghost use Rattle.std.specs.Prelude.{◌≡◌, [], ◌∷◌, ◌<◌, ◌≤◌
 ghost use Rattle.division.specs.Bits.{odd, bits, bytes_bits};
 ghost use Rattle.division.specs.Division.{Fed};
 ghost use Rattle.checksum.specs.Checksums.{header_polynomial, header_division, frame_polynomial, frame_checksum};
-ghost use Rattle.checksum.specs.FrameChecksum.{told, FrameChecksumSays};
+ghost use Rattle.checksum.specs.FrameChecksum.{FrameChecksumSays};
 
-use base_types::{Channel, Named};
+use base_types::{Channel, NotAChannel};
 pub use pair::ChecksumPair;
-
-// What `frame_checksum` answers.
-#[derive(Clone, Copy)]
-pub enum Checksum {
-    Value(u32),
-    NotAChannel,
-}
-
-impl Checksum {
-    // 01's number: 0, or that of the refusal.
-    pub fn number(self) -> u8
-        ensures { result ≡ (told self).number }
-    {
-        match self {
-            Checksum::Value(_) => 0,
-            Checksum::NotAChannel => 1,
-        }
-    }
-
-    // The checksum, 0 with a refusal.
-    pub fn value(self) -> u32
-        ensures { result ≡ (told self).value }
-    {
-        let Checksum::Value(value) = self else {
-            return 0;
-        };
-        value
-    }
-}
 
 const HEADER_WIDTH: u32 = 11;
 
@@ -74,11 +45,8 @@ fn feed(register: u32, n: u64, count: u32) -> u32
     ensures { Fed 11 header_polynomial register (bits count n) result }
 {
     let mut r = register;
-    let mut fed = 0;
-    while fed < count {
-        let place = count - 1 - fed;
+    for place in (0..count).rev() {
         r = step(r, ((n >> place) % 2) as u32);
-        fed += 1;
     }
     r
 }
@@ -88,13 +56,7 @@ fn feed(register: u32, n: u64, count: u32) -> u32
 pub fn header_checksum(message: u64, count: u32) -> u16
     ensures { result ≡ header_division (bits (min count 64) message) }
 {
-    feed(HEADER_START, message, up_to_64(count)) as u16
-}
-
-fn up_to_64(count: u32) -> u32
-    ensures { (result ≡ min count 64) × (result ≤ 64) }
-{
-    if count < 64 { count } else { 64 }
+    feed(HEADER_START, message, count.min(64)) as u16
 }
 
 // The frame checksum's register after one more byte: shifted left, and with an entry of the table taken in. What is looked up is the byte,
@@ -105,7 +67,7 @@ fn feed_byte(register: u32, byte: u8) -> u32
 {
     let top = register >> (FRAME_WIDTH - 8);
     let shifted = (register << 8) & ((1 << FRAME_WIDTH) - 1);
-    shifted ^ checksum_table::entry(top ^ byte as u32)
+    shifted ^ checksum_table::entry(top ^ u32::from(byte))
 }
 
 // The frame checksum's register after bytes.
@@ -114,10 +76,8 @@ fn feed_bytes(register: u32, bytes: &[u8]) -> u32
     ensures { Fed 24 frame_polynomial register (bytes_bits bytes.now) result }
 {
     let mut r = register;
-    let mut i = 0;
-    while i < bytes.len() {
-        r = feed_byte(r, bytes[i]);
-        i += 1;
+    for byte in bytes {
+        r = feed_byte(r, *byte);
     }
     r
 }
@@ -129,12 +89,11 @@ pub fn frame_checksum_on(channel: Channel, bytes: &[u8]) -> u32
     feed_bytes(channel.start(), bytes)
 }
 
-// The frame checksum of any bytes on a channel given by its number, or refusal 1.
-pub fn frame_checksum(channel: u8, bytes: &[u8]) -> Checksum
+// The frame checksum of any bytes on a channel given by its number, or refusal 1. (A number, as 01's refusal 1 asks.)
+#[tactic(auto, unfolding(refusal::specs::Refusal::first, base_types::specs::Channel::named_by))]
+pub fn frame_checksum(channel: u8, bytes: &[u8]) -> Result<u32, NotAChannel>
     ensures { FrameChecksumSays channel bytes.now result }
 {
-    let Named::Is(named) = Channel::named(channel) else {
-        return Checksum::NotAChannel;
-    };
-    Checksum::Value(frame_checksum_on(named, bytes))
+    let named = Channel::try_from(channel)?;
+    Ok(frame_checksum_on(named, bytes))
 }

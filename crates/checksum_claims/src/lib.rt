@@ -11,12 +11,12 @@ pub fn same_on_both(bytes: &[u8]) -> bool
 {
     let on_a = checksum::frame_checksum(0, bytes);
     let on_b = checksum::frame_checksum(1, bytes);
-    on_a.value() == on_b.value()
+    on_a.unwrap_or(0) == on_b.unwrap_or(0)
 }
 
 // Whether the entry refuses: exactly where the number is no channel's, whatever the bytes.
 pub fn refused(channel: u8, bytes: &[u8]) -> bool
     ensures { result ≡ not_a_channel channel }
 {
-    checksum::frame_checksum(channel, bytes).number() != 0
+    checksum::frame_checksum(channel, bytes).is_err()
 }

@@ -1,2 +1,1 @@
-pub mod StatementLaws
 pub mod SoundLaws

@@ -1,11 +1,12 @@
 -- What a sound clock state gives: its clauses apart, and numbers that are small enough.
 use Prim.Native.Nat.{ℕ, zero, suc, ◌-◌, ◌≤◌, ◌<◌}
 use mathlib.Core.Path.{◌≡◌, ap}
-use mathlib.Core.Bool.{true, false, not}
+use mathlib.Core.Bool.{true, false, true≢false, not}
+use Rattle.std.specs.Prelude.{is_some}
 use mathlib.Core.List.{List, [], ◌∷◌}
 use native.Mathlib.Omega.{arith}
-use borrow.Author.Tests.{leb-true, le-leb, eqb-true, not-true, not-false}
-use lib.Dec.{leb, eqb}
+use borrow.Author.Tests.{leb-true, le-leb, not-true}
+use lib.Dec.{leb}
 use lib.IntN.{ℤ, pos, neg_ℤ}
 use lib.ListN.{get_or, length}
 use lib.Signed.{lt_z}
@@ -16,7 +17,7 @@ use Rattle.midpoint.proofs.RangeLaws.{Near}
 use Rattle.settings.specs.declared.Range.{Range}
 use Rattle.settings.specs.declared.Mark.{Mark}
 use Rattle.settings.specs.declared.Settings.{Settings}
-use Rattle.settings.specs.Sheet.{field, ◌to◌, ranges, within, first_outside, first_out_of_range, out_of_range, sync_id_limit, rate_limit}
+use Rattle.settings.specs.Sheet.{field, ◌to◌, ranges, within, first_outside, out_of_range, sync_id_limit, rate_limit}
 use Rattle.correction.specs.Terms.{is_outside}
 use Rattle.sync_list.specs.declared.list.SyncList.{SyncList}
 use Rattle.sync_list.specs.Lists.{listed, ids_of, none_twice}
@@ -63,7 +64,7 @@ sound_by c k =
 abbrev pub highest : ℕ → ℕ
 highest number = (get_or ranges (number - 1) (0 to 0)).highest
 
-at_most_highest : (n : ℕ) (rs : List Range) (values : List ℕ) (i : ℕ) → first_outside (suc n) rs values ≡ 0 → i < length rs
+at_most_highest : (n : ℕ) (rs : List Range) (values : List ℕ) (i : ℕ) → is_some (first_outside n rs values) ≡ false → i < length rs
     → get_or values i 0 ≤ (get_or rs i (0 to 0)).highest
 unfolding first_outside
 at_most_highest n [] values i e h = absurd (omega arith)
@@ -71,16 +72,16 @@ at_most_highest n (r ∷ rs) [] i e h = omega arith
 at_most_highest n (r ∷ rs) (value ∷ values) zero e h =
     cases (within r value)
     (λ t. leb-true value r.highest (both_true (leb r.lowest value) (leb value r.highest) t).1)
-    (λ t. absurd (omega (arith, rw t at e)))
+    (λ t. absurd (true≢false (rw t at e)))
 at_most_highest n (r ∷ rs) (value ∷ values) (suc i) e h =
-    let rest : first_outside (suc (suc n)) rs values ≡ 0 → get_or values i 0 ≤ (get_or rs i (0 to 0)).highest =
+    let rest : is_some (first_outside (suc n) rs values) ≡ false → get_or values i 0 ≤ (get_or rs i (0 to 0)).highest =
     λ q. at_most_highest (suc n) rs values i q (omega arith) in
     cases (within r value)
     (λ t. rest (rw t at e))
-    (λ t. absurd (omega (arith, rw t at e)))
+    (λ t. absurd (true≢false (rw t at e)))
 
 pub at_most : (s : Settings) → out_of_range s ≡ false → (number : ℕ) → number - 1 < length ranges → field number s ≤ highest number
-at_most s e number h = at_most_highest 0 ranges s.fields (number - 1) (eqb-true (first_out_of_range s) 0 (not-false (eqb (first_out_of_range s) 0) e)) h
+at_most s e number h = at_most_highest 1 ranges s.fields (number - 1) e h
 
 -- ---- lists
 

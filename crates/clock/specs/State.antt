@@ -1,37 +1,22 @@
 -- The state of a clock (01, "Clock").
-use Rattle.std.specs.Prelude.{ℕ, Bool, true, false, cond, eqb, pos}
+use Rattle.std.specs.Prelude.{ℕ, Bool, false, cond, eqb, unwrap_or, Option, None, Some, pos}
 use Rattle.base_types.specs.declared.cycle.Cycle.{Cycle}
 use Rattle.base_types.specs.Cycle.{is_odd}
 use Rattle.settings.specs.declared.Settings.{Settings}
 use Rattle.settings.specs.Sheet.{no_settings}
 use Rattle.sync_list.specs.declared.list.SyncList.{SyncList}
 use Rattle.sync_list.specs.Lists.{empty}
-use Rattle.clock.specs.declared.state.CycleOrNone.{CycleOrNone}
-use Rattle.clock.specs.declared.state.CycleOrNone.TheVariants.{NoCycle, Is}
 use Rattle.clock.specs.declared.state.Clock.{Clock}
 
--- ---- a cycle, or none
-
-abbrev pub is_there : CycleOrNone → Bool
-is_there NoCycle = false
-is_there (Is cycle) = true
-
--- The cycle; 0 where there is none.
-abbrev pub cycle_in : CycleOrNone → Cycle
-cycle_in NoCycle = record { 0 = 0 }
-cycle_in (Is cycle) = cycle
-
 -- It is the cycle with this number.
-abbrev pub is_cycle : ℕ → CycleOrNone → Bool
-is_cycle number NoCycle = false
-is_cycle number (Is cycle) = eqb cycle.0 number
-
--- ---- a clock
+abbrev pub is_cycle : ℕ → Option Cycle → Bool
+is_cycle number None = false
+is_cycle number (Some cycle) = eqb cycle.0 number
 
 -- "a fresh clock state: both lists empty, no cycle open, none closed, stored rate 0".
 abbrev pub fresh : Settings → Clock
 fresh settings =
-    record { settings = settings; even = empty; odd = empty; opened = NoCycle; last_closed = NoCycle; rate = record { 0 = pos 0 } }
+    record { settings = settings; even = empty; odd = empty; opened = None; last_closed = None; rate = record { 0 = pos 0 } }
 
 -- "all zeros with clear flags": what comes back beside a refused load.
 abbrev pub no_clock : Clock
@@ -39,7 +24,7 @@ no_clock = fresh no_settings
 
 -- The open cycle; 0 where none is open.
 abbrev pub current_cycle : Clock → Cycle
-current_cycle clock = cycle_in clock.opened
+current_cycle clock = unwrap_or clock.opened (record { 0 = 0 })
 
 -- The list of a cycle's measurements.
 abbrev pub list_of : Cycle → Clock → SyncList

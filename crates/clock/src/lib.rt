@@ -11,7 +11,7 @@ mod opening;
 mod sound;
 mod state;
 
-pub use loading::{Loaded, Loading, load};
-pub use opening::{CycleOpened, CycleOpening, open_cycle};
+pub use loading::load;
+pub use opening::{CycleRefusal, open_cycle};
 pub use sound::is_sound;
-pub use state::{Clock, CycleOrNone};
+pub use state::Clock;

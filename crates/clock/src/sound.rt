@@ -2,8 +2,9 @@
 ghost use Rattle.std.specs.Prelude.{◌≡◌};
 ghost use Rattle.clock.specs.Sound.{cycle_sound, rate_sound, sound};
 
-use crate::state::{Clock, CycleOrNone};
-use base_types::SignedMicrotick;
+use crate::state::Clock;
+use base_types::{Cycle, SignedMicrotick};
+use settings::Field;
 
 // Soundness as 01 writes it, clause by clause, with that of 02 (C-17) on marks, of the lists that the rows stand for. It is no stricter:
 // refusal 23 is given exactly where a state is not sound. What is asked of rows besides is that they stand for a list at all.
@@ -11,48 +12,25 @@ pub fn is_sound(clock: Clock) -> bool
     ensures { result ≡ sound clock }
 {
     let settings = clock.settings;
-    let opened = clock.opened;
-    let last_closed = clock.last_closed;
-    let even = clock.even;
-    let odd = clock.odd;
-    if settings.first_out_of_range() != 0 {
-        return false;
-    }
-    if !cycle_sound(opened) {
-        return false;
-    }
-    if !cycle_sound(last_closed) {
-        return false;
-    }
-    let limit = settings.sync_id_limit();
-    let mark = settings.mark;
-    if !list_soundness::is_sound(even, limit, mark) {
-        return false;
-    }
-    if !list_soundness::is_sound(odd, limit, mark) {
-        return false;
-    }
-    rate_sound(clock.rate, settings.rate_limit())
+    let limit = settings.get(Field::SyncIdLimit);
+    settings.first_out_of_range().is_none()
+        && cycle_sound(clock.opened)
+        && cycle_sound(clock.last_closed)
+        && list_soundness::is_sound(clock.even, limit, settings.mark)
+        && list_soundness::is_sound(clock.odd, limit, settings.mark)
+        && rate_sound(clock.rate, settings.get(Field::RateLimit))
 }
 
 // Whether a cycle is at most the highest, where there is one.
-fn cycle_sound(cycle: CycleOrNone) -> bool
+fn cycle_sound(cycle: Option<Cycle>) -> bool
     ensures { result ≡ cycle_sound cycle }
 {
-    let CycleOrNone::Is(number) = cycle else {
-        return true;
-    };
-    !number.is_too_high()
+    cycle.is_none_or(|number| !number.is_too_high())
 }
 
 // Whether a stored rate is within its limit.
 fn rate_sound(rate: SignedMicrotick, limit: u32) -> bool
     ensures { result ≡ rate_sound rate limit }
 {
-    let stored = rate.0 as i64;
-    let highest = limit as i64;
-    if highest < stored {
-        return false;
-    }
-    0 - highest <= stored
+    rate.amount() <= limit
 }

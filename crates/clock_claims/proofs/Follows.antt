@@ -1,4 +1,5 @@
 -- A clock state follows what has happened, and so it does after each call.
+use Rattle.std.specs.Prelude.{Option, None, Some, is_some, unwrap_or}
 use Prim.Native.Nat.{ℕ, ◌-◌, ◌≤◌}
 use native.Mathlib.Nat.{le_trans}
 use mathlib.Core.Path.{◌≡◌, refl, sym, ap, subst, transport, ◌∙◌}
@@ -33,11 +34,9 @@ use Rattle.list_soundness.specs.Sound.{list_sound}
 use Rattle.measurements.specs.Measurements.{stands_for, different_ids}
 use Rattle.measurements.specs.Terms.{offset_values_of, rate_values_of}
 use Rattle.measurements.proofs.AddingLaws.{recorded_permuted}
-use Rattle.clock.specs.declared.state.CycleOrNone.{CycleOrNone}
-use Rattle.clock.specs.declared.state.CycleOrNone.TheVariants.{NoCycle, Is}
 use Rattle.clock.specs.declared.state.Clock.{Clock}
 use Rattle.base_types.specs.Cycle.{is_odd}
-use Rattle.clock.specs.State.{is_there, cycle_in, is_cycle, fresh, current_cycle, list_of}
+use Rattle.clock.specs.State.{is_cycle, fresh, current_cycle, list_of}
 use Rattle.clock.specs.Opening.{opening_refusals, keeps_even, even_after, opened_on}
 use Rattle.clock.proofs.SoundLaws.{clauses, at_most, list_clauses}
 use Rattle.measuring.specs.Measuring.{frame_of, no_sync_frame, deviation_with, measurement_with, deviation_by, measurement_by, measured_on}
@@ -55,10 +54,10 @@ use Rattle.clock_claims.proofs.TakenLaws.{taken_permuted, full_permuted, list_ta
 -- ---- the relation
 
 -- The cycles of the measurements in use, by the cycle that is open or was closed last.
-abbrev Steady : CycleOrNone → CycleOrNone → List InUse → Type 0
-Steady (Is cycle) last l = Every (OfOpen cycle.0) l
-Steady NoCycle (Is cycle) l = Every (OfClosed cycle.0) l
-Steady NoCycle NoCycle l = Unit
+abbrev Steady : Option Cycle → Option Cycle → List InUse → Type 0
+Steady (Some cycle) last l = Every (OfOpen cycle.0) l
+Steady None (Some cycle) l = Every (OfClosed cycle.0) l
+Steady None None l = Unit
 
 -- The state holds what has happened, and each list has all its rows.
 pub record Follows (s : Since) (c : Clock) : Type 0 where
@@ -67,18 +66,18 @@ pub record Follows (s : Since) (c : Clock) : Type 0 where
   pub odd_typed : TypedList c.odd
   pub steady : Steady s.opened s.last_closed s.in_use
 
-steady_closed : (o l : CycleOrNone) (ms : List InUse) (n : ℕ) → Steady o l ms → is_there o ≡ false → is_cycle n l ≡ true → odd n ≡ false
+steady_closed : (o l : Option Cycle) (ms : List InUse) (n : ℕ) → Steady o l ms → is_some o ≡ false → is_cycle n l ≡ true → odd n ≡ false
     → Every (λ (m : InUse). eqb m.cycle n ≡ is_even m.cycle) ms
-steady_closed (Is cycle) l ms n st closed is even = absurd (false≢true (sym closed))
-steady_closed NoCycle NoCycle ms n st closed is even = absurd (false≢true is)
-steady_closed NoCycle (Is cycle) ms n st closed is even =
+steady_closed (Some cycle) l ms n st closed is even = absurd (false≢true (sym closed))
+steady_closed None None ms n st closed is even = absurd (false≢true is)
+steady_closed None (Some cycle) ms n st closed is even =
     let same : cycle.0 ≡ n = eqb-true cycle.0 n is in
     every (λ m h. ap (eqb m.cycle) (sym same) ∙ h (ap odd same ∙ even)) ms st
 
 -- where a cycle is open
-steady_open : (o l : CycleOrNone) (ms : List InUse) → is_there o ≡ true → Steady o l ms ≡ Every (OfOpen (cycle_in o).0) ms
-steady_open (Is cycle) l ms there = refl
-steady_open NoCycle l ms there = absurd (false≢true there)
+steady_open : (o l : Option Cycle) (ms : List InUse) → is_some o ≡ true → Steady o l ms ≡ Every (OfOpen (unwrap_or o (record { 0 = 0 })).0) ms
+steady_open (Some cycle) l ms there = refl
+steady_open None l ms there = absurd (false≢true there)
 
 -- ---- a load
 
@@ -111,7 +110,7 @@ module _ (s : Since) (c : Clock) (f : Follows s c) where
     pub open-number : first (opening_refusals c cycle) ≡ first (open_refusals s cycle)
     open-number =
         first_skip 23 _ (ap not f.holds.good)
-        ∙ ap (λ (o : CycleOrNone). first (11 when cycle_too_high cycle.0 ∷ 19 when is_there o ∷ [])) f.holds.opened
+        ∙ ap (λ (o : Option Cycle). first (11 when cycle_too_high cycle.0 ∷ 19 when is_some o ∷ [])) f.holds.opened
 
     -- what an even list and the measurements in use are once the cycle is open: none of an odd cycle is in use
     abbrev Opened : SyncList → List InUse → Type 0
@@ -120,7 +119,7 @@ module _ (s : Since) (c : Clock) (f : Follows s c) where
         × Permuted (stands_for (listed empty)) (of_cycles (of_parity true) l)
         × Every (OfOpen cycle.0) l
 
-    module _ (closed : is_there s.opened ≡ false) where
+    module _ (closed : is_some s.opened ≡ false) where
       -- the even list stays where an odd cycle follows the last closed one, of which all its measurements are
       kept-opened : keeps_even c cycle ≡ true → Opened c.even (kept_of (cycle.0 - 1) s.in_use)
       kept-opened kept =
@@ -140,7 +139,7 @@ module _ (s : Since) (c : Clock) (f : Follows s c) where
       opened-in-use : Opened (even_after c cycle) (after_opening s cycle).in_use
       opened-in-use =
           let kept = kept_of (cycle.0 - 1) s.in_use in
-          subst (λ (l : CycleOrNone). Opened (even_after c cycle) (cond (is_odd cycle && is_cycle (cycle.0 - 1) l) kept [])) f.holds.last_closed
+          subst (λ (l : Option Cycle). Opened (even_after c cycle) (cond (is_odd cycle && is_cycle (cycle.0 - 1) l) kept [])) f.holds.last_closed
           (cases_in (λ b. Opened (cond b c.even empty) (cond b kept [])) (keeps_even c cycle) kept-opened
           (λ t. (nothing_in is_even, nothing_in (of_parity true), tt)))
 
@@ -165,7 +164,7 @@ module _ (s : Since) (c : Clock) (f : Follows s c) where
   -- ---- while a cycle is open
 
   now_is : current_cycle c ≡ current s
-  now_is = ap cycle_in f.holds.opened
+  now_is = ap (λ (o : Option Cycle). unwrap_or o (record { 0 = 0 })) f.holds.opened
 
   limit_small : sync_id_limit c.settings ≤ row_count
   limit_small = at_most c.settings (clauses c f.holds.good).settings 4 (lit< tt)
@@ -181,7 +180,7 @@ module _ (s : Since) (c : Clock) (f : Follows s c) where
   held true = f.holds.odd
   held false = f.holds.even
 
-  module _ (there : is_there s.opened ≡ true) where
+  module _ (there : is_some s.opened ≡ true) where
     of-open : Every (OfOpen (current s).0) s.in_use
     of-open = transport (steady_open s.opened s.last_closed s.in_use there) f.steady
 
@@ -218,7 +217,7 @@ module _ (s : Since) (c : Clock) (f : Follows s c) where
     pub measurement-is : measurement_by c status observed action_point ≡ measurement_in s status observed action_point
     measurement-is = ap (λ (k : Settings). measurement_with whole k status observed action_point) f.holds.settings
 
-    number-open : is_there s.opened ≡ true → first ours ≡ first (measure_refusals s status observed action_point)
+    number-open : is_some s.opened ≡ true → first ours ≡ first (measure_refusals s status observed action_point)
     number-open there =
         let id = (frame_of status).id in
         let limit = sync_id_limit c.settings in
@@ -226,7 +225,7 @@ module _ (s : Since) (c : Clock) (f : Follows s c) where
         let l = list_of (current_cycle c) c in
         let p = list-holds there in
         let p23 = ap (λ (b : Bool). not (b && slot.sound status)) f.holds.good in
-        let p18 = ap (λ (o : CycleOrNone). not (is_there o)) f.holds.opened in
+        let p18 = ap (λ (o : Option Cycle). not (is_some o)) f.holds.opened in
         let p22 = ap (λ (n : Cycle). not (eqb (frame_of status).cycle.0 n.0)) now_is in
         let p16 = list_taken limit mark l list_typed limit_small list_good id status.channel ∙ taken_permuted id.0 status.channel p in
         let p15 =
@@ -245,10 +244,10 @@ module _ (s : Since) (c : Clock) (f : Follows s c) where
         ∷ [])
 
     -- where no cycle is open, 23 or 18 comes before what is measured is looked at
-    number-closed : is_there s.opened ≡ false → first ours ≡ first (measure_refusals s status observed action_point)
+    number-closed : is_some s.opened ≡ false → first ours ≡ first (measure_refusals s status observed action_point)
     number-closed closed =
         let good = ap (λ (b : Bool). not (b && slot.sound status)) f.holds.good in
-        let none = ap (λ (o : CycleOrNone). not (is_there o)) f.holds.opened ∙ ap not closed in
+        let none = ap (λ (o : Option Cycle). not (is_some o)) f.holds.opened ∙ ap not closed in
         cases (slot.sound status)
         (λ t.
         first_skip 23 _ (good ∙ ap not t)
@@ -257,7 +256,7 @@ module _ (s : Since) (c : Clock) (f : Follows s c) where
         (λ t. first_here 23 _ (good ∙ ap not t) ∙ sym (first_here 23 _ (ap not t)))
 
     pub measure-number : first ours ≡ first (measure_refusals s status observed action_point)
-    measure-number = cases (is_there s.opened) number-open number-closed
+    measure-number = cases (is_some s.opened) number-open number-closed
 
     module _ (zero : first ours ≡ 0) where
       abbrev m : Measurement
@@ -269,9 +268,9 @@ module _ (s : Since) (c : Clock) (f : Follows s c) where
       abbrev list : SyncList
       list = recorded (frame_of status).id status.channel m (list_of (current_cycle c) c)
 
-      there : is_there s.opened ≡ true
+      there : is_some s.opened ≡ true
       unfolding numbered
-      there = ap is_there (sym f.holds.opened) ∙ not-false (is_there c.opened) (not_refused ours refl zero 18)
+      there = ap is_some (sym f.holds.opened) ∙ not-false (is_some c.opened) (not_refused ours refl zero 18)
 
       -- the list has the measurement, and what it had
       one_more : Permuted (stands_for (listed list)) (new.taken ∷ stands_for (listed (list_of (current_cycle c) c)))
@@ -326,9 +325,9 @@ module _ (s : Since) (c : Clock) (f : Follows s c) where
   pub close_number : (offset_control rate_control : ℤ) → first (closing_refusals c offset_control rate_control) ≡ first (close_refusals s offset_control rate_control)
   close_number offset_control rate_control =
       first_skip 23 _ (ap not f.holds.good)
-      ∙ ap (λ (o : CycleOrNone). first (18 when not (is_there o) ∷ 21 when (not_a_control offset_control || not_a_control rate_control) ∷ [])) f.holds.opened
+      ∙ ap (λ (o : Option Cycle). first (18 when not (is_some o) ∷ 21 when (not_a_control offset_control || not_a_control rate_control) ∷ [])) f.holds.opened
 
-  module _ (there : is_there s.opened ≡ true) where
+  module _ (there : is_some s.opened ≡ true) where
     offset-is : offset_found c ≡ offset_in s
     offset-is =
         offset_over c f.holds.good (of_current s) (list-holds there)
@@ -355,10 +354,10 @@ module _ (s : Since) (c : Clock) (f : Follows s c) where
         record {
           holds =
               record {
-                good = closed_on_sound c f.holds.good (ap is_there f.holds.opened ∙ there);
+                good = closed_on_sound c f.holds.good (ap is_some f.holds.opened ∙ there);
                 settings = f.holds.settings;
                 opened = refl;
-                last_closed = ap Is now_is;
+                last_closed = ap Some now_is;
                 rate = ap (λ (t : Term). t.value.0) rate-is;
                 even = f.holds.even;
                 odd = f.holds.odd;

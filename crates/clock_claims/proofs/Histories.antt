@@ -1,4 +1,5 @@
 -- Whole sequences of calls: each call answers as the history says and leaves a state that holds what has happened.
+use Rattle.std.specs.Prelude.{is_some}
 use Prim.Native.Nat.{ℕ, zero, suc}
 use mathlib.Core.Path.{◌≡◌, refl, sym, ap, ap₂, subst, ◌∙◌}
 use mathlib.Core.Bool.{Bool, true, false, not, ◌&&◌, cond}
@@ -13,19 +14,19 @@ use Rattle.settings.specs.Sheet.{out_of_range}
 use Rattle.slot.specs.Sound as slot
 use Rattle.sync_list.specs.declared.row.Measurement.{Measurement}
 use Rattle.clock.specs.declared.state.Clock.{Clock}
-use Rattle.clock.specs.declared.loading.Loaded.{Loaded}
-use Rattle.clock.specs.declared.opening.CycleOpened.{CycleOpened}
-use Rattle.clock.specs.State.{is_there, fresh, no_clock}
+use Rattle.clock.specs.Loading.{Loaded}
+use Rattle.clock.specs.Opening.{CycleOpened}
+use Rattle.clock.specs.State.{fresh, no_clock}
 use Rattle.clock.specs.Sound.{sound}
 use Rattle.clock.specs.Loading as loading
 use Rattle.clock.specs.Loading.{LoadSays, load_refusals}
 use Rattle.clock.specs.Opening as opening
 use Rattle.clock.specs.Opening.{opening_refusals, opened_on}
-use Rattle.measuring.specs.declared.FrameMeasured.{FrameMeasured}
+use Rattle.measuring.specs.Measuring.{FrameMeasured}
 use Rattle.measuring.specs.Measuring as measuring
 use Rattle.measuring.specs.Measuring.{deviation_by, measurement_by, measured_on}
 use Rattle.closing.specs.declared.Report.{Report}
-use Rattle.closing.specs.declared.CycleClosed.{CycleClosed}
+use Rattle.closing.specs.Closing.{CycleClosed}
 use Rattle.closing.specs.Closing as closing
 use Rattle.closing.specs.Closing.{closing_refusals, report_of, closed_on, no_report}
 use Rattle.clock_claims.specs.History.{Call, load, open_cycle, measure, close_cycle, Answer, loaded, opened, measured, closed, Since, Past, nothing, since, just_loaded, after_opening, measurement_in, after_measuring, report_in, after_closing, open_refusals, close_refusals, next, answer, past_of, answers_of}
@@ -45,11 +46,11 @@ tracks_holds (since s) c t = t.holds
 
 -- ---- one call
 
-load_tracks : (settings : Settings) (r : Loaded) → LoadSays settings r → Tracks (cond (out_of_range settings) nothing (since (just_loaded settings))) r.clock
+load_tracks : (settings : Settings) (r : Loaded) → LoadSays settings r → Tracks (cond (out_of_range settings) nothing (since (just_loaded settings))) r.state
 load_tracks settings r h =
-    let left : (n : ℕ) → first (load_refusals settings) ≡ n → r.clock ≡ if_accepted n (fresh settings) no_clock =
+    let left : (n : ℕ) → first (load_refusals settings) ≡ n → r.state ≡ if_accepted n (fresh settings) no_clock =
     λ n e. h.leaves ∙ ap (λ (k : ℕ). if_accepted k (fresh settings) no_clock) e in
-    cases_in (λ b. Tracks (cond b nothing (since (just_loaded settings))) r.clock) (out_of_range settings)
+    cases_in (λ b. Tracks (cond b nothing (since (just_loaded settings))) r.state) (out_of_range settings)
     (λ t. left 17 (first_here 17 [] t))
     (λ t. subst (Follows (just_loaded settings)) (sym (left 0 (first_skip 17 [] t ∙ first_end))) (follows_load settings t))
 
@@ -112,7 +113,7 @@ one_call (since s) c (measure status observed action_point) a d f (r, h, ea, ed)
 one_call (since s) c (close_cycle offset_control rate_control) a d f (r, h, ea, ed) =
     let n = close_number s c f offset_control rate_control in
     let k = first (close_refusals s offset_control rate_control) in
-    let there : k ≡ 0 → is_there s.opened ≡ true = λ e. not-false _ (not_refused (close_refusals s offset_control rate_control) refl e 18) in (
+    let there : k ≡ 0 → is_some s.opened ≡ true = λ e. not-false _ (not_refused (close_refusals s offset_control rate_control) refl e 18) in (
       ea
           ∙ ap closed
           (h.answers
@@ -147,13 +148,13 @@ agree told left same ea ed ea' ed' = (ea ∙ ap told same ∙ sym ea', ed ∙ ap
 -- a call on one state has one answer and leaves one state
 one_result : (c : Clock) (call : Call) (a a' : Answer) (d d' : Clock) → Makes c call a d → Makes c call a' d' → (a ≡ a') × (d ≡ d')
 one_result c (load settings) a a' d d' (r, h, ea, ed) (r', h', ea', ed') =
-    agree (λ (x : Loaded). loaded (loading.told x.answer)) (λ x. x.clock) (load_one settings r r' h h') ea ed ea' ed'
+    agree (λ (x : Loaded). loaded (loading.told x.answer)) (λ x. x.state) (load_one settings r r' h h') ea ed ea' ed'
 one_result c (open_cycle cycle) a a' d d' (r, h, ea, ed) (r', h', ea', ed') =
-    agree (λ (x : CycleOpened). opened (opening.told x.answer)) (λ x. x.clock) (open_one c cycle r r' h h') ea ed ea' ed'
+    agree (λ (x : CycleOpened). opened (opening.told x.answer)) (λ x. x.state) (open_one c cycle r r' h h') ea ed ea' ed'
 one_result c (measure status observed action_point) a a' d d' (r, h, ea, ed) (r', h', ea', ed') =
-    agree (λ (x : FrameMeasured). measured (measuring.told x.answer)) (λ x. x.clock) (measure_one c status observed action_point r r' h h') ea ed ea' ed'
+    agree (λ (x : FrameMeasured). measured (measuring.told x.answer)) (λ x. x.state) (measure_one c status observed action_point r r' h h') ea ed ea' ed'
 one_result c (close_cycle offset_control rate_control) a a' d d' (r, h, ea, ed) (r', h', ea', ed') =
-    agree (λ (x : CycleClosed). closed (closing.told x.answer)) (λ x. x.clock) (close_one c offset_control rate_control r r' h h') ea ed ea' ed'
+    agree (λ (x : CycleClosed). closed (closing.told x.answer)) (λ x. x.state) (close_one c offset_control rate_control r r' h h') ea ed ea' ed'
 
 same_calls : (c : Clock) (calls : List Call) (answers answers' : List Answer) (d d' : Clock) → MakesAll c calls answers d → MakesAll c calls answers' d'
     → (answers ≡ answers') × (d ≡ d')

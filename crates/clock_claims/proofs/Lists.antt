@@ -1,4 +1,5 @@
 -- A list is sound exactly when the measurements that it stands for, and its rows, are as they should be.
+use Rattle.std.specs.Prelude.{None, Some}
 use Prim.Native.Nat.{ℕ, ◌≤◌}
 use mathlib.Core.Path.{◌≡◌, refl, sym, ap, subst, ◌∙◌}
 use mathlib.Core.Bool.{Bool, true, false, false≢true, not, ◌&&◌, ◌||◌}
@@ -17,8 +18,7 @@ use Rattle.base_types.specs.Slot.{not_an_id}
 use Rattle.settings.specs.declared.Mark.{Mark}
 use Rattle.base_types.specs.Microtick.{lowest_deviation, highest_deviation}
 use Rattle.sync_list.specs.declared.row.Measurement.{Measurement}
-use Rattle.sync_list.specs.declared.row.Measured.{Measured}
-use Rattle.sync_list.specs.declared.row.Measured.TheVariants.{Nothing, Is}
+use Rattle.sync_list.specs.Rows.{Measured}
 use Rattle.sync_list.specs.declared.row.Row.{Row}
 use Rattle.sync_list.specs.declared.list.SyncList.{SyncList}
 use Rattle.sync_list.specs.Rows.{is_measured, on}
@@ -63,7 +63,7 @@ module _ (rows : List Row) (s : rows_sound rows ≡ true) where
       let h = members rows m mem in
       has_ranged h.row m (row_good h.row h.among) h.has
 
-  all_measured : (row : Row) → Memᴰ row rows → row.on_a ≡ Nothing → row.on_b ≡ Nothing → ⊥
+  all_measured : (row : Row) → Memᴰ row rows → row.on_a ≡ None → row.on_b ≡ None → ⊥
   all_measured row mem ea eb =
       let there = row_measured row (row_good row mem) in
       false≢true (sym (ap (λ (x : Measured). is_measured x || is_measured row.on_b) ea ∙ ap is_measured eb) ∙ there)
@@ -93,17 +93,17 @@ once_row row rows new once = by row.on_a row.on_b
         false≢true (sym new ∙ there)
 
     b-first : (d : Measured) → OncePerChannel (taken (id_of row) B d ++ stands_for rows)
-    b-first Nothing = once
-    b-first (Is d) = (λ n mem e c. other n mem e, once)
+    b-first None = once
+    b-first (Some d) = (λ n mem e c. other n mem e, once)
 
     a-before : (d : Measured) (n : Taken) → Memᴰ n (taken (id_of row) B d ++ stands_for rows) → n.id ≡ id_of row → n.channel ≡ A → ⊥
-    a-before Nothing n mem e c = other n mem e
-    a-before (Is d) n mem e c =
+    a-before None n mem e c = other n mem e
+    a-before (Some d) n mem e c =
         came (Memᴰ.cases_cons mem) (λ q. false≢true (ap (same_channel A) (sym (ap (λ (m : Taken). m.channel) q) ∙ c))) (λ m. other n m e)
 
     by : (a b : Measured) → OncePerChannel (taken (id_of row) A a ++ (taken (id_of row) B b ++ stands_for rows))
-    by Nothing b = b-first b
-    by (Is d) b = (λ n mem e c. a-before b n mem e c, b-first b)
+    by None b = b-first b
+    by (Some d) b = (λ n mem e c. a-before b n mem e c, b-first b)
 
 taken_once : (rows : List Row) → none_twice (ids_of rows) ≡ true → OncePerChannel (stands_for rows)
 unfolding stands_for
@@ -134,10 +134,10 @@ different_none_twice (row ∷ rows) (here, later) =
     (different_none_twice rows later)
 
 -- what holds of every measurement of a row is asked of a channel, and nothing where nothing was measured
-module _ (P : Measurement → Type 0) (asked : Measured → Bool) (none : asked Nothing ≡ true) (one : (m : Measurement) → P m → asked (Is m) ≡ true) (row : Row) (all : (m : Taken) → Has row m → P m.measurement) where
+module _ (P : Measurement → Type 0) (asked : Measured → Bool) (none : asked None ≡ true) (one : (m : Measurement) → P m → asked (Some m) ≡ true) (row : Row) (all : (m : Taken) → Has row m → P m.measurement) where
   holds_on : (channel : Channel) (x : Measured) → on channel row ≡ x → asked x ≡ true
-  holds_on channel Nothing e = none
-  holds_on channel (Is d) e = one d (all (record { id = id_of row; channel = channel; measurement = d }) (record { id = refl; there = e }))
+  holds_on channel None e = none
+  holds_on channel (Some d) e = one d (all (record { id = id_of row; channel = channel; measurement = d }) (record { id = refl; there = e }))
 
   holds_on_both : asked row.on_a && asked row.on_b ≡ true
   holds_on_both = true_both (asked row.on_a) (asked row.on_b) (holds_on A row.on_a refl) (holds_on B row.on_b refl)
@@ -150,19 +150,19 @@ ranged_by =
 marked_by : (mark : Mark) (row : Row) → ((m : Taken) → Has row m → m.measurement.mark ≡ mark) → row_marked mark row ≡ true
 marked_by mark = holds_on_both (λ m. m.mark ≡ mark) (carries mark) refl (λ m e. eq-eqb m.mark.0 mark.0 (ap (λ (x : Mark). x.0) e))
 
-measured_one : (a b : Measured) → (a ≡ Nothing → b ≡ Nothing → ⊥) → is_measured a || is_measured b ≡ true
-measured_one Nothing Nothing h = absurd (h refl refl)
-measured_one Nothing (Is d) h = refl
-measured_one (Is d) b h = refl
+measured_one : (a b : Measured) → (a ≡ None → b ≡ None → ⊥) → is_measured a || is_measured b ≡ true
+measured_one None None h = absurd (h refl refl)
+measured_one None (Some d) h = refl
+measured_one (Some d) b h = refl
 
 -- a row that is measured stands for a measurement, which has its ID
 id_by_one : (row : Row) (a b : Measured) → on A row ≡ a → on B row ≡ b → is_measured a || is_measured b ≡ true
     → ((m : Taken) → Has row m → IsId m.id) → IsId (id_of row)
-id_by_one row (Is d) b ea eb h all = all (record { id = id_of row; channel = A; measurement = d }) (record { id = refl; there = ea })
-id_by_one row Nothing (Is d) ea eb h all = all (record { id = id_of row; channel = B; measurement = d }) (record { id = refl; there = eb })
-id_by_one row Nothing Nothing ea eb h all = absurd (false≢true h)
+id_by_one row (Some d) b ea eb h all = all (record { id = id_of row; channel = A; measurement = d }) (record { id = refl; there = ea })
+id_by_one row None (Some d) ea eb h all = all (record { id = id_of row; channel = B; measurement = d }) (record { id = refl; there = eb })
+id_by_one row None None ea eb h all = absurd (false≢true h)
 
-row_sound_by : (row : Row) → (row.on_a ≡ Nothing → row.on_b ≡ Nothing → ⊥) → ((m : Taken) → Has row m → IsId m.id)
+row_sound_by : (row : Row) → (row.on_a ≡ None → row.on_b ≡ None → ⊥) → ((m : Taken) → Has row m → IsId m.id)
     → ((m : Taken) → Has row m → IsDeviation m.measurement.deviation.0) → row_sound row ≡ true
 row_sound_by row measured ids ranged =
     let one = measured_one row.on_a row.on_b measured in

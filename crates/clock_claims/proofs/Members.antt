@@ -1,4 +1,5 @@
 -- The measurements that rows stand for, one by one.
+use Rattle.std.specs.Prelude.{None, Some}
 use Prim.Native.Nat.{ℕ}
 use mathlib.Core.Path.{◌≡◌, refl, sym, ap, subst, ◌∙◌}
 use mathlib.Core.Bool.{true, false≢true}
@@ -10,8 +11,7 @@ use Rattle.numbers.proofs.Truth.{either_true, true_left, true_right}
 use Rattle.numbers.proofs.Walk.{came}
 use Rattle.base_types.specs.declared.channel.Channel.{Channel}
 use Rattle.base_types.specs.declared.channel.Channel.TheVariants.{A, B}
-use Rattle.sync_list.specs.declared.row.Measured.{Measured}
-use Rattle.sync_list.specs.declared.row.Measured.TheVariants.{Nothing, Is}
+use Rattle.sync_list.specs.Rows.{Measured}
 use Rattle.sync_list.specs.declared.row.Row.{Row}
 use Rattle.sync_list.specs.Rows.{on}
 use Rattle.sync_list.specs.Lists.{id_of, ids_of, is_among}
@@ -20,7 +20,7 @@ use Rattle.measurements.specs.Measurements.{Taken, taken, stands_for}
 -- This measurement is what a row has on its channel.
 pub record Has (row : Row) (m : Taken) : Type 0 where
   pub id : m.id ≡ id_of row
-  pub there : on m.channel row ≡ Is m.measurement
+  pub there : on m.channel row ≡ Some m.measurement
 
 -- A measurement of the rows is that of a row among them.
 pub record HasOne (rows : List Row) (m : Taken) : Type 0 where
@@ -29,8 +29,8 @@ pub record HasOne (rows : List Row) (m : Taken) : Type 0 where
   pub has : Has row m
 
 taken_has : (row : Row) (channel : Channel) (x : Measured) (m : Taken) → on channel row ≡ x → Memᴰ m (taken (id_of row) channel x) → Has row m
-taken_has row channel Nothing m e mem = absurd (Memᴰ.not-nil mem)
-taken_has row channel (Is d) m e mem =
+taken_has row channel None m e mem = absurd (Memᴰ.not-nil mem)
+taken_has row channel (Some d) m e mem =
     came (Memᴰ.cases_cons mem) (λ q. subst (Has row) (sym q) (record { id = refl; there = e })) (λ none. absurd (Memᴰ.not-nil none))
 
 pub members : (rows : List Row) (m : Taken) → Memᴰ m (stands_for rows) → HasOne rows m
@@ -51,7 +51,7 @@ members (row ∷ rows) m mem =
 
 has_taken : (row : Row) (m : Taken) (channel : Channel) → m.channel ≡ channel → Has row m → Memᴰ m (taken (id_of row) channel (on channel row))
 has_taken row m channel e h =
-    let there : on channel row ≡ Is m.measurement = ap (λ (k : Channel). on k row) (sym e) ∙ h.there in
+    let there : on channel row ≡ Some m.measurement = ap (λ (k : Channel). on k row) (sym e) ∙ h.there in
     subst (λ (x : Measured). Memᴰ m (taken (id_of row) channel x)) (sym there)
     (Memᴰ.head (λ i. record { id = h.id i; channel = e i; measurement = m.measurement }))
 

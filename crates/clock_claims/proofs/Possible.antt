@@ -2,34 +2,29 @@
 use Prim.Native.Nat.{ℕ}
 use mathlib.Core.Path.{◌≡◌, refl, sym, ap, ◌∙◌}
 use mathlib.Core.Bool.{true, false}
+use Rattle.std.specs.Prelude.{Option, None, Some, is_some, unwrap_or}
 use mathlib.Core.List.{List, [], ◌∷◌}
-use borrow.Author.Tests.{eqb-true, not-false}
-use lib.Dec.{eqb}
 use lib.IntN.{ℤ, pos}
-use Rattle.numbers.proofs.Walk.{cases}
 use Rattle.refusal.specs.Refusal.{Line, ◌when◌, first, if_accepted}
-use Rattle.refusal.proofs.FirstLaws.{first_skip, first_here, first_end}
 use Rattle.base_types.specs.declared.cycle.Cycle.{Cycle}
 use Rattle.settings.specs.declared.Settings.{Settings}
-use Rattle.settings.specs.Sheet.{first_out_of_range, out_of_range}
+use Rattle.settings.specs.Sheet.{first_out_of_range}
 use Rattle.slot.specs.declared.status.Status.{Status}
 use Rattle.base_types.specs.declared.microtick.Microtick.{Microtick}
 use Rattle.clock.specs.declared.state.Clock.{Clock}
-use Rattle.clock.specs.declared.loading.Loaded.{Loaded}
-use Rattle.clock.specs.declared.loading.Loading.TheVariants as loading
-use Rattle.clock.specs.declared.opening.CycleOpened.{CycleOpened}
+use Rattle.clock.specs.Loading.{Loaded}
+use Rattle.clock.specs.Opening.{CycleOpened}
 use Rattle.clock.specs.State.{fresh, no_clock}
 use Rattle.clock.specs.Loading as load
 use Rattle.clock.specs.Opening as open_rule
-use Rattle.clock.proofs.StatementLaws.{load_says}
-use Rattle.measuring.specs.declared.FrameMeasured.{FrameMeasured}
+use Rattle.measuring.specs.Measuring.{FrameMeasured}
 use Rattle.measuring.specs.Measuring as measure
-use Rattle.closing.specs.declared.CycleClosed.{CycleClosed}
+use Rattle.closing.specs.Closing.{CycleClosed}
 use Rattle.closing.specs.Closing as close
 use Rattle.clock_claims.specs.History.{Call, loaded, opened, measured, closed}
 use Rattle.clock_claims.specs.Histories.{Leaves, Possible}
 use Rattle.clock_claims.specs.History as call
-use Rattle.clock_claims.proofs.Answers.{opening_by, measuring_by, closing_by}
+use Rattle.clock_claims.proofs.Answers.{loading_by, opening_by, measuring_by, closing_by}
 
 -- what holds of 0 and of every number of a list holds of the first
 abbrev EveryNumber : (ℕ → Type 0) → List Line → Type 0
@@ -44,24 +39,27 @@ first_case P (n when false ∷ l) none (here, rest) = first_case P l none rest
 
 -- ---- one call
 
+-- with 17 the field is told, and with no other number
+said_of : Option ℕ → load.Told
+said_of field = record { number = first (17 when is_some field ∷ []); field = unwrap_or field 0 }
+
+said_again : (field : Option ℕ) → load.told (loading_by (said_of field)) ≡ said_of field
+unfolding loading_by said_of first
+said_again None = refl
+said_again (Some field) = refl
+
 loads : (settings : Settings) → (r : Loaded) × load.LoadSays settings r
-loads settings =
-    cases (out_of_range settings)
-    (λ t. (
-      record { answer = loading.SettingOutOfRange (first_out_of_range settings); clock = no_clock },
-      load_says settings 17 (loading.SettingOutOfRange (first_out_of_range settings)) no_clock (first_here 17 [] t) refl refl,
-    ))
-    (λ t. (
-      record { answer = loading.Loaded; clock = fresh settings },
-      load_says settings 0 loading.Loaded (fresh settings) (first_skip 17 [] t ∙ first_end)
-          (ap (λ (k : ℕ). record { number = 0; field = k }) (sym (eqb-true (first_out_of_range settings) 0 (not-false (eqb (first_out_of_range settings) 0) t)))) refl,
-    ))
+unfolding said_of
+loads settings = (
+  record { answer = loading_by (said_of (first_out_of_range settings)); state = if_accepted (first (load.load_refusals settings)) (fresh settings) no_clock },
+  record { answers = said_again (first_out_of_range settings); leaves = refl },
+)
 
 opens : (c : Clock) (cycle : Cycle) → (r : CycleOpened) × open_rule.OpenCycleSays c cycle r
 unfolding opening_by
 opens c cycle =
     let l = open_rule.opening_refusals c cycle in (
-      record { answer = opening_by (first l); clock = if_accepted (first l) (open_rule.opened_on c cycle) c },
+      record { answer = opening_by (first l); state = if_accepted (first l) (open_rule.opened_on c cycle) c },
       record { answers = first_case (λ (n : ℕ). open_rule.told (opening_by n) ≡ n) l refl (refl, (refl, (refl, tt))); leaves = refl },
     )
 
@@ -72,7 +70,7 @@ measures c status observed action_point =
     let d = measure.deviation_by c status observed action_point in
     let m = measure.measurement_by c status observed action_point in
     let said : ℕ → measure.Told = λ (n : ℕ). record { number = n; deviation = if_accepted n d (pos 0) } in (
-      record { answer = measuring_by (said (first l)); clock = if_accepted (first l) (measure.measured_on c status m) c },
+      record { answer = measuring_by (said (first l)); state = if_accepted (first l) (measure.measured_on c status m) c },
       record {
         answers = first_case (λ (n : ℕ). measure.told (measuring_by (said n)) ≡ said n) l refl (refl, (refl, (refl, (refl, (refl, (refl, (refl, tt)))))));
         leaves = refl;
@@ -84,19 +82,19 @@ unfolding closing_by
 closes c offset_control rate_control =
     let l = close.closing_refusals c offset_control rate_control in
     let said : ℕ → close.Told = λ (n : ℕ). record { number = n; report = if_accepted n (close.report_of c offset_control rate_control) close.no_report } in (
-      record { answer = closing_by (said (first l)); clock = if_accepted (first l) (close.closed_on c) c },
+      record { answer = closing_by (said (first l)); state = if_accepted (first l) (close.closed_on c) c },
       record { answers = first_case (λ (n : ℕ). close.told (closing_by (said n)) ≡ said n) l refl (refl, (refl, (refl, tt))); leaves = refl },
     )
 
 one_possible : (c : Clock) (k : Call) → (d : Clock) × Leaves c k d
-one_possible c (call.load settings) = let x = loads settings in (x.0.clock, (loaded (load.told x.0.answer), (x.0, x.1, refl, refl)))
-one_possible c (call.open_cycle cycle) = let x = opens c cycle in (x.0.clock, (opened (open_rule.told x.0.answer), (x.0, x.1, refl, refl)))
+one_possible c (call.load settings) = let x = loads settings in (x.0.state, (loaded (load.told x.0.answer), (x.0, x.1, refl, refl)))
+one_possible c (call.open_cycle cycle) = let x = opens c cycle in (x.0.state, (opened (open_rule.told x.0.answer), (x.0, x.1, refl, refl)))
 one_possible c (call.measure status observed action_point) =
     let x = measures c status observed action_point in
-    (x.0.clock, (measured (measure.told x.0.answer), (x.0, x.1, refl, refl)))
+    (x.0.state, (measured (measure.told x.0.answer), (x.0, x.1, refl, refl)))
 one_possible c (call.close_cycle offset_control rate_control) =
     let x = closes c offset_control rate_control in
-    (x.0.clock, (closed (close.told x.0.answer), (x.0, x.1, refl, refl)))
+    (x.0.state, (closed (close.told x.0.answer), (x.0, x.1, refl, refl)))
 
 -- ---- any sequence
 

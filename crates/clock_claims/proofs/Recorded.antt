@@ -1,21 +1,22 @@
 -- A measurement that is taken leaves a sound list: there is room for it, its ID is one, and its deviation is in range.
+use Rattle.std.specs.Prelude.{Option, None, Some, is_some, is_none, min, unwrap_or}
 use Prim.Native.Nat.{ℕ, suc, ◌≤◌, ◌<◌}
 use mathlib.Core.Path.{◌≡◌, sym, ap, subst, ◌∙◌}
 use mathlib.Core.Bool.{true, false, false≢true, not, cond}
 use native.Mathlib.Omega.{arith}
 use borrow.Author.Tests.{leb-false, ltb-true, ltb-false, not-true}
 use lib.Dec.{leb, ltb}
-use lib.ListN.{length, length-set, set}
+use lib.ListN.{length, length-map, length-set, length-take, set}
 use Rattle.numbers.proofs.Truth.{both_true, true_both}
 use Rattle.numbers.proofs.Walk.{cases, cases_in}
 use Rattle.base_types.specs.declared.channel.Channel.{Channel}
 use Rattle.base_types.specs.declared.cycle.Cycle.{Cycle}
 use Rattle.base_types.specs.declared.id.Slot.{Slot}
 use Rattle.base_types.specs.Slot.{not_an_id}
-use Rattle.slot.specs.declared.status.Kept.{Kept}
-use Rattle.slot.specs.declared.status.Kept.TheVariants.{Nothing, Frame}
+use Rattle.header.specs.declared.Header.{Header}
+use Rattle.header.specs.Layout.{no_header}
 use Rattle.slot.specs.declared.status.Status.{Status}
-use Rattle.slot.specs.Judging.{Place, place_of, first_miss, is_passed, is_frame, header_kept}
+use Rattle.slot.specs.Judging.{Place, place_of, first_miss}
 use Rattle.slot.specs.Sound.{could_be_read, keeps_well}
 use Rattle.slot.specs.Sound as slot
 use Rattle.slot.proofs.SoundLaws.{clauses as status-clauses}
@@ -25,9 +26,8 @@ use Rattle.base_types.specs.Microtick.{is_deviation}
 use Rattle.sync_list.specs.declared.row.Measurement.{Measurement}
 use Rattle.sync_list.specs.declared.list.SyncList.{SyncList}
 use Rattle.sync_list.specs.Rows.{with_measured}
-use Rattle.sync_list.specs.Lists.{row_count, empty, listed, ids_of, is_among, place_of as list_place, is_full_for, recorded, row_in}
+use Rattle.sync_list.specs.Lists.{row_count, empty, listed, id_of, ids_of, is_among, place_of as list_place, is_full_for, recorded, row_in}
 use Rattle.list_soundness.specs.Sound.{list_sound, all_marked}
-use Rattle.sync_list.proofs.ListLaws.{ids_long, listed_few}
 use Rattle.sync_list.proofs.PlaceLaws.{among_place, place_most}
 use Rattle.measurements.proofs.AddingLaws.{recorded-count-known, recorded-count-new, recorded-once, recorded-sound, recorded_marked}
 use Rattle.clock.specs.declared.state.Clock.{Clock}
@@ -41,12 +41,12 @@ use Rattle.clock_claims.specs.Typed.{TypedList}
 
 -- ---- the ID of a frame that a sound status keeps
 
-kept_id : (p : Place) (k : Kept) → keeps_well p k ≡ true → is_frame k ≡ true → not_an_id (header_kept k).id.0 ≡ false
-kept_id p Nothing e f = absurd (false≢true f)
-kept_id p (Frame h) e f =
-    not-true (not_an_id h.id.0) (both_true (not (not_an_id h.id.0)) _ (both_true (could_be_read h) (is_passed (first_miss p h)) e).0).0
+kept_id : (p : Place) (k : Option Header) → keeps_well p k ≡ true → is_some k ≡ true → not_an_id (unwrap_or k no_header).id.0 ≡ false
+kept_id p None e f = absurd (false≢true f)
+kept_id p (Some h) e f =
+    not-true (not_an_id h.id.0) (both_true (not (not_an_id h.id.0)) _ (both_true (could_be_read h) (is_none (first_miss p h)) e).0).0
 
-pub frame_id : (s : Status) → slot.sound s ≡ true → is_frame s.kept ≡ true → not_an_id (frame_of s).id.0 ≡ false
+pub frame_id : (s : Status) → slot.sound s ≡ true → is_some s.kept ≡ true → not_an_id (frame_of s).id.0 ≡ false
 frame_id s e f = kept_id (place_of s) s.kept (status-clauses s e).keeps f
 
 -- ---- room
@@ -60,20 +60,17 @@ module _ (limit : ℕ) (mark : Mark) (l : SyncList) (id : Slot) (typed : TypedLi
       (λ t. absurd (false≢true (sym room ∙ true_both (leb limit l.count) (not (is_among id.0 (ids_of (listed l)))) t (ap not new))))
       (λ t. t))
 
+  ids_long : length (ids_of (listed l)) ≡ min l.count row_count
+  ids_long = length-map (listed l) id_of ∙ length-take l.count l.rows ∙ ap (min l.count) typed
+
   pub has_place : list_place id l < row_count
   has_place =
       let place = among_place id.0 (ids_of (listed l)) in
-      let long = ids_long l typed in
-      let rows = listed_few l typed in
+      let long = ids_long in
       let most = place_most id.0 (ids_of (listed l)) in
       cases (is_among id.0 (ids_of (listed l)))
       (λ t. omega (arith, ltb-true (list_place id l) (length (ids_of (listed l))) (place ∙ t)))
-      (λ t. let h = new_within t in let n = counted in omega arith)
-    where
-      counted : length (ids_of (listed l)) ≤ l.count
-      counted =
-          rw (ids_long l typed)
-          (cases_in (λ b. cond b l.count row_count ≤ l.count) (ltb l.count row_count) (λ t. omega arith) (ltb-false l.count row_count))
+      (λ t. let h = new_within t in omega arith)
 
   pub recorded_good : (channel : Channel) (m : Measurement) → m.mark ≡ mark → not_an_id id.0 ≡ false → is_deviation m.deviation.0 ≡ true
       → list_sound limit mark (recorded id channel m l) ≡ true

@@ -1,24 +1,26 @@
 -- The rule of soundness is 01's sentence, and the all-zero state does not meet it.
-use Prim.Native.Nat.{ℕ, ◌≤◌}
+use Rattle.std.specs.Prelude.{Option, None, Some, is_some, unwrap_or}
+use Prim.Native.Nat.{ℕ, suc, ◌≤◌}
 use mathlib.Core.Path.{◌≡◌, refl, sym, ap, ◌∙◌}
-use mathlib.Core.Bool.{true, false, not}
+use mathlib.Core.Bool.{Bool, true, false, true≢false, false≢true, not, cond}
+use mathlib.Core.List.{List, [], ◌∷◌}
 use native.Mathlib.Omega.{arith}
-use borrow.Author.Tests.{eq-eqb, eqb-true, ltb-false, le-ltb, not-true, not-false}
-use lib.Dec.{eqb, lit<}
+use borrow.Author.Tests.{ltb-false, le-ltb, not-true}
+use lib.Dec.{lit<}
 use lib.IntN.{pos, neg_ℤ}
 use lib.Signed.{le_z, lt_z}
 use Rattle.numbers.proofs.Signed.{le_sums, sums_le, sums_nlt, nlt_sums}
 use Rattle.numbers.proofs.Truth.{neither}
+use Rattle.base_types.specs.declared.cycle.Cycle.{Cycle}
 use Rattle.base_types.specs.Cycle.{highest_cycle, cycle_too_high}
 use Rattle.settings.specs.declared.Settings.{Settings}
-use Rattle.settings.specs.Sheet.{first_outside, first_out_of_range, out_of_range, sync_id_limit, rate_limit}
+use Rattle.settings.specs.declared.Range.{Range}
+use Rattle.settings.specs.Sheet.{ranges, within, first_outside, first_out_of_range, out_of_range, sync_id_limit, rate_limit}
 use Rattle.settings_claims.specs.Sheet.{AllInRange, TypedSettings}
 use Rattle.settings_claims.proofs.Sheet.{sheets}
 use Rattle.base_types.specs.declared.microtick.SignedMicrotick.{SignedMicrotick}
 use Rattle.correction.specs.Terms.{is_outside}
 use Rattle.sync_list.specs.Lists.{row_count}
-use Rattle.clock.specs.declared.state.CycleOrNone.{CycleOrNone}
-use Rattle.clock.specs.declared.state.CycleOrNone.TheVariants.{NoCycle, Is}
 use Rattle.clock.specs.Sound.{cycle_sound, rate_sound}
 use Rattle.clock.proofs.SoundLaws.{clauses, sound_by, at_most}
 use Rattle.clock_claims.specs.Sound.{CycleAtMostHighest, SoundExactly, NoClockUnsound}
@@ -26,20 +28,39 @@ use Rattle.clock_claims.proofs.Lists.{list_good, good_list}
 
 -- ---- settings
 
+none_told : (told : Option ℕ) → is_some told ≡ false → unwrap_or told 0 ≡ 0
+none_told None e = refl
+none_told (Some number) e = absurd (true≢false e)
+
+-- a walk tells no number below the one that it begins with
+told_here : (b : Bool) (rest : Option ℕ) (m n : ℕ) → (rest ≡ Some n → suc m ≤ n) → cond b rest (Some m) ≡ Some n → m ≤ n
+told_here true rest m n later e = let l = later e in omega arith
+told_here false rest m n later e = let same : m ≡ n = ap (λ (told : Option ℕ). unwrap_or told 0) e in omega arith
+
+told_from : (m : ℕ) (rs : List Range) (vs : List ℕ) (n : ℕ) → first_outside m rs vs ≡ Some n → m ≤ n
+unfolding first_outside
+told_from m [] vs n e = absurd (false≢true (ap is_some e))
+told_from m (r ∷ rs) [] n e = absurd (false≢true (ap is_some e))
+told_from m (r ∷ rs) (v ∷ vs) n e = told_here (within r v) (first_outside (suc m) rs vs) m n (told_from (suc m) rs vs n) e
+
+none_of : (told : Option ℕ) → ((n : ℕ) → told ≡ Some n → 1 ≤ n) → unwrap_or told 0 ≡ 0 → is_some told ≡ false
+none_of None counted e = refl
+none_of (Some number) counted e = absurd (let l = counted number refl in omega arith)
+
 in_range_lem : (s : Settings) → TypedSettings s → out_of_range s ≡ false → AllInRange s
-in_range_lem s typed e = (sheets s typed).none.0 (eqb-true (first_out_of_range s) 0 (not-false (eqb (first_out_of_range s) 0) e))
+in_range_lem s typed e = (sheets s typed).none.0 (none_told (first_out_of_range s) e)
 
 range_in : (s : Settings) → TypedSettings s → AllInRange s → out_of_range s ≡ false
-range_in s typed all = ap not (eq-eqb (first_out_of_range s) 0 ((sheets s typed).none.1 all))
+range_in s typed all = none_of (first_out_of_range s) (told_from 1 ranges s.fields) ((sheets s typed).none.1 all)
 
 -- ---- cycles
 
-cycle_good : (c : CycleOrNone) → cycle_sound c ≡ true → CycleAtMostHighest c
+cycle_good : (c : Option Cycle) → cycle_sound c ≡ true → CycleAtMostHighest c
 cycle_good c e cycle q = ltb-false highest_cycle cycle.0 (not-true (cycle_too_high cycle.0) (sym (ap cycle_sound q) ∙ e))
 
-good_cycle : (c : CycleOrNone) → CycleAtMostHighest c → cycle_sound c ≡ true
-good_cycle NoCycle h = refl
-good_cycle (Is cycle) h = ap not (le-ltb highest_cycle cycle.0 (h cycle refl))
+good_cycle : (c : Option Cycle) → CycleAtMostHighest c → cycle_sound c ≡ true
+good_cycle None h = refl
+good_cycle (Some cycle) h = ap not (le-ltb highest_cycle cycle.0 (h cycle refl))
 
 -- ---- the stored rate
 

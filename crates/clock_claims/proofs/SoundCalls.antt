@@ -1,4 +1,5 @@
 -- Every accepted call returns a sound state.
+use Rattle.std.specs.Prelude.{Option, None, Some, is_some, unwrap_or}
 use Prim.Native.Nat.{ℕ}
 use mathlib.Core.Path.{◌≡◌, refl, sym, ap, ◌∙◌}
 use mathlib.Core.Bool.{true, false, false≢true, not, ◌&&◌}
@@ -15,16 +16,13 @@ use Rattle.settings.specs.declared.Mark.{Mark}
 use Rattle.settings.specs.declared.Settings.{Settings}
 use Rattle.settings.specs.Sheet.{out_of_range, sync_id_limit, rate_limit}
 use Rattle.slot.specs.declared.status.Status.{Status}
-use Rattle.slot.specs.Judging.{is_frame}
 use Rattle.slot.specs.Sound as slot
 use Rattle.base_types.specs.declared.microtick.Microtick.{Microtick}
 use Rattle.base_types.specs.Microtick.{above_time_limit}
 use Rattle.sync_list.specs.Lists.{empty, none_twice, recorded}
 use Rattle.list_soundness.specs.Sound.{each_row, list_sound}
 use Rattle.clock.specs.declared.state.Clock.{Clock}
-use Rattle.clock.specs.declared.state.CycleOrNone.{CycleOrNone}
-use Rattle.clock.specs.declared.state.CycleOrNone.TheVariants.{NoCycle, Is}
-use Rattle.clock.specs.State.{fresh, is_there, cycle_in, current_cycle, list_of}
+use Rattle.clock.specs.State.{fresh, current_cycle, list_of}
 use Rattle.clock.specs.Sound.{cycle_sound, sound}
 use Rattle.clock.specs.Loading as loading
 use Rattle.clock.specs.Opening.{opening_refusals, opened_on}
@@ -88,8 +86,8 @@ opened_sound clock cycle r h e =
 
 -- ---- measuring
 
-has_frame : (s : Status) → no_sync_frame s ≡ false → is_frame s.kept ≡ true
-has_frame s e = not-false (is_frame s.kept) (neither (not (is_frame s.kept)) _ e).0
+has_frame : (s : Status) → no_sync_frame s ≡ false → is_some s.kept ≡ true
+has_frame s e = not-false (is_some s.kept) (neither (not (is_some s.kept)) _ e).0
 
 module _ (c : Clock) (status : Status) (observed action_point : Microtick) (even : TypedList c.even) (odd : TypedList c.odd) where
   pub measured_on_sound : first (measure_refusals c status observed action_point) ≡ 0 → sound (measured_on c status (measurement_by c status observed action_point)) ≡ true
@@ -115,11 +113,11 @@ measured_sound clock status observed action_point r typed h e =
 
 -- ---- closing
 
-open_cycle_sound : (c : CycleOrNone) → cycle_sound c ≡ true → is_there c ≡ true → cycle_sound (Is (cycle_in c)) ≡ true
-open_cycle_sound NoCycle e there = absurd (false≢true there)
-open_cycle_sound (Is cycle) e there = e
+open_cycle_sound : (c : Option Cycle) → cycle_sound c ≡ true → is_some c ≡ true → cycle_sound (Some (unwrap_or c (record { 0 = 0 }))) ≡ true
+open_cycle_sound None e there = absurd (false≢true there)
+open_cycle_sound (Some cycle) e there = e
 
-pub closed_on_sound : (c : Clock) → sound c ≡ true → is_there c.opened ≡ true → sound (closed_on c) ≡ true
+pub closed_on_sound : (c : Clock) → sound c ≡ true → is_some c.opened ≡ true → sound (closed_on c) ≡ true
 closed_on_sound c e there =
     let k = clauses c e in
     sound_by (closed_on c)
@@ -138,4 +136,4 @@ closed_sound clock offset_control rate_control r h e =
     let zero : first (closing_refusals clock offset_control rate_control) ≡ 0 = sym (ap (λ (t : closing.Told). t.number) h.answers) ∙ e in
     let passed = not_refused (closing_refusals clock offset_control rate_control) refl zero in
     ap sound (h.leaves ∙ if_accepted_lem _ (closed_on clock) clock zero)
-    ∙ closed_on_sound clock (not-false (sound clock) (passed 23)) (not-false (is_there clock.opened) (passed 18))
+    ∙ closed_on_sound clock (not-false (sound clock) (passed 23)) (not-false (is_some clock.opened) (passed 18))

@@ -1,4 +1,5 @@
 -- Whether an ID is measured, and how many are: by the rows, by the list that they stand for, and by any other order of it.
+use Rattle.std.specs.Prelude.{None, Some}
 use Prim.Native.Nat.{ℕ, ◌≤◌}
 use mathlib.Core.Path.{◌≡◌, refl, sym, ap, ap₂, ◌∙◌}
 use mathlib.Core.Bool.{Bool, true, false, not, ◌&&◌, ◌||◌, cond, or_assoc, or_comm}
@@ -18,12 +19,10 @@ use Rattle.base_types.specs.declared.id.Slot.{Slot}
 use Rattle.settings.specs.declared.Mark.{Mark}
 use Rattle.settings.specs.declared.Settings.{Settings}
 use Rattle.settings.specs.Sheet.{sync_id_limit}
-use Rattle.correction.specs.declared.value.Value.{Value}
-use Rattle.correction.specs.declared.value.Value.TheVariants as value
+use Rattle.correction.specs.Values.{Value}
 use Rattle.correction.specs.declared.value.Deviations.{Deviations}
 use Rattle.correction.specs.Values.{is, smaller}
-use Rattle.sync_list.specs.declared.row.Measured.{Measured}
-use Rattle.sync_list.specs.declared.row.Measured.TheVariants.{Nothing, Is}
+use Rattle.sync_list.specs.Rows.{Measured}
 use Rattle.sync_list.specs.declared.row.Row.{Row}
 use Rattle.sync_list.specs.declared.list.SyncList.{SyncList}
 use Rattle.sync_list.specs.Rows.{on, is_measured, value_of}
@@ -41,13 +40,13 @@ use Rattle.clock_claims.specs.History.{is_taken, is_full}
 -- ---- it is taken where its deviation is there
 
 is_present : Value → Bool
-is_present value.Absent = false
-is_present (value.Is x) = true
+is_present None = false
+is_present (Some x) = true
 
 present_smaller : (x : ℤ) (v : Value) → is_present (smaller (is x) v) ≡ true
 unfolding is_present
-present_smaller x value.Absent = refl
-present_smaller x (value.Is y) = cases_in (λ b. is_present (cond b (value.Is y) (is x)) ≡ true) (lt_z y.0 x) (λ t. refl) (λ t. refl)
+present_smaller x None = refl
+present_smaller x (Some y) = cases_in (λ b. is_present (cond b (Some y) (is x)) ≡ true) (lt_z y.0 x) (λ t. refl) (λ t. refl)
 
 taken_there : (id : ℕ) (channel : Channel) (ms : List Taken) → is_taken id channel ms ≡ is_present (deviation_on channel ms id)
 unfolding is_taken deviations_if smallest is_present
@@ -78,8 +77,8 @@ full_permuted settings id {ms} {ns} p =
 
 measured_there : (x : Measured) → is_measured x ≡ is_present (value_of x)
 unfolding is_present
-measured_there Nothing = refl
-measured_there (Is d) = refl
+measured_there None = refl
+measured_there (Some d) = refl
 
 in_taken : (id : Slot) (channel : Channel) (rows : List Row) → none_twice (ids_of rows) ≡ true
     → is_measured (on channel (row_in id rows)) ≡ is_taken id.0 channel (stands_for rows)

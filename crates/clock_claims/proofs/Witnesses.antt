@@ -12,17 +12,17 @@ use Rattle.slot.specs.declared.status.Status.{Status}
 use Rattle.settings_claims.specs.Sheet.{TypedSettings}
 use Rattle.base_types.specs.declared.microtick.Microtick.{Microtick}
 use Rattle.clock.specs.declared.state.Clock.{Clock}
-use Rattle.clock.specs.declared.loading.Loaded.{Loaded}
-use Rattle.clock.specs.declared.opening.CycleOpened.{CycleOpened}
+use Rattle.clock.specs.Loading.{Loaded}
+use Rattle.clock.specs.Opening.{CycleOpened}
 use Rattle.clock.specs.State.{fresh, no_clock}
 use Rattle.clock.specs.Loading as loading
 use Rattle.clock.specs.Loading.{LoadSays}
 use Rattle.clock.specs.Opening as opening
 use Rattle.clock.specs.Opening.{OpenCycleSays}
-use Rattle.measuring.specs.declared.FrameMeasured.{FrameMeasured}
+use Rattle.measuring.specs.Measuring.{FrameMeasured}
 use Rattle.measuring.specs.Measuring as measuring
 use Rattle.measuring.specs.Measuring.{MeasureSays}
-use Rattle.closing.specs.declared.CycleClosed.{CycleClosed}
+use Rattle.closing.specs.Closing.{CycleClosed}
 use Rattle.closing.specs.Closing as closing
 use Rattle.closing.specs.Closing.{CloseSays}
 use Rattle.clock_claims.specs.Typed.{TypedClock}
@@ -136,9 +136,9 @@ pub closed_after_well : (calls : List Call) (m : Clock) (offset_control rate_con
 closed_after_well calls m offset_control rate_control r (answers, makes) h =
     let call = close_cycle offset_control rate_control in
     let a = closed (closing.told r.answer) in
-    let all = makes_more no_clock calls answers m call a r.clock makes (r, h, refl, refl) in
-    let x = histories (calls ++ (call ∷ [])) (answers ++ (a ∷ [])) r.clock all in
+    let all = makes_more no_clock calls answers m call a r.state makes (r, h, refl, refl) in
+    let x = histories (calls ++ (call ∷ [])) (answers ++ (a ∷ [])) r.state all in
     record {
       answers = sym (last_more a a answers) ∙ ap (last_of a) x.0 ∙ last_answer a nothing calls call;
-      holds = subst (λ (p : Past). Holds p r.clock) (past_more nothing calls call) x.1;
+      holds = subst (λ (p : Past). Holds p r.state) (past_more nothing calls call) x.1;
     }

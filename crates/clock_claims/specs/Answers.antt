@@ -9,17 +9,17 @@ use Rattle.slot.specs.declared.status.Status.{Status}
 use Rattle.settings_claims.specs.Sheet.{TypedSettings, FieldTold}
 use Rattle.base_types.specs.declared.microtick.Microtick.{Microtick}
 use Rattle.clock.specs.declared.state.Clock.{Clock}
-use Rattle.clock.specs.declared.loading.Loaded.{Loaded}
-use Rattle.clock.specs.declared.opening.CycleOpened.{CycleOpened}
+use Rattle.clock.specs.Loading.{Loaded}
+use Rattle.clock.specs.Opening.{CycleOpened}
 use Rattle.clock.specs.State.{no_clock}
 use Rattle.clock.specs.Loading as loading
 use Rattle.clock.specs.Loading.{LoadSays}
 use Rattle.clock.specs.Opening as opening
 use Rattle.clock.specs.Opening.{OpenCycleSays}
-use Rattle.measuring.specs.declared.FrameMeasured.{FrameMeasured}
+use Rattle.measuring.specs.Measuring.{FrameMeasured}
 use Rattle.measuring.specs.Measuring as measuring
 use Rattle.measuring.specs.Measuring.{MeasureSays}
-use Rattle.closing.specs.declared.CycleClosed.{CycleClosed}
+use Rattle.closing.specs.Closing.{CycleClosed}
 use Rattle.closing.specs.Closing as closing
 use Rattle.closing.specs.Closing.{CloseSays}
 
@@ -70,18 +70,18 @@ LoadField =
 -- very one that was
 
 abbrev pub LoadRefused : Type 0
-LoadRefused = (settings : Settings) (r : Loaded) → LoadSays settings r → ((loading.told r.answer).number ≡ 0 → ⊥) → r.clock ≡ no_clock
+LoadRefused = (settings : Settings) (r : Loaded) → LoadSays settings r → ((loading.told r.answer).number ≡ 0 → ⊥) → r.state ≡ no_clock
 
 abbrev pub OpenRefused : Type 0
 OpenRefused =
-    (clock : Clock) (cycle : Cycle) (r : CycleOpened) → OpenCycleSays clock cycle r → (opening.told r.answer ≡ 0 → ⊥) → r.clock ≡ clock
+    (clock : Clock) (cycle : Cycle) (r : CycleOpened) → OpenCycleSays clock cycle r → (opening.told r.answer ≡ 0 → ⊥) → r.state ≡ clock
 
 abbrev pub MeasureRefused : Type 0
 MeasureRefused =
     (clock : Clock) (status : Status) (observed action_point : Microtick) (r : FrameMeasured) → MeasureSays clock status observed action_point r
-    → ((measuring.told r.answer).number ≡ 0 → ⊥) → ((measuring.told r.answer).deviation ≡ pos 0) × (r.clock ≡ clock)
+    → ((measuring.told r.answer).number ≡ 0 → ⊥) → ((measuring.told r.answer).deviation ≡ pos 0) × (r.state ≡ clock)
 
 abbrev pub CloseRefused : Type 0
 CloseRefused =
     (clock : Clock) (offset_control rate_control : ℤ) (r : CycleClosed) → CloseSays clock offset_control rate_control r
-    → ((closing.told r.answer).number ≡ 0 → ⊥) → ((closing.told r.answer).report ≡ closing.no_report) × (r.clock ≡ clock)
+    → ((closing.told r.answer).number ≡ 0 → ⊥) → ((closing.told r.answer).report ≡ closing.no_report) × (r.state ≡ clock)

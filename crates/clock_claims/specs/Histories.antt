@@ -1,25 +1,25 @@
 -- Claims about whole sequences of calls, loads and refused calls among them. The customer's second condition asks that deviations and both
 -- corrections are those of 01's rules, and that loading settings leaves no earlier measurement in use. So each claim is by the rule of a
 -- history, which names no clock state.
+use Rattle.std.specs.Prelude.{None}
 use Rattle.std.specs.Prelude.{ℕ, ◌%◌, ◌≡◌, Bool, true, not, List, [], ◌∷◌, eqb, pos}
 use Rattle.midpoint.specs.Order.{Permuted}
 use Rattle.settings.specs.declared.Settings.{Settings}
 use Rattle.sync_list.specs.Lists.{listed, empty}
 use Rattle.measurements.specs.Measurements.{stands_for}
-use Rattle.clock.specs.declared.state.CycleOrNone.TheVariants.{NoCycle}
 use Rattle.clock.specs.declared.state.Clock.{Clock}
-use Rattle.clock.specs.declared.loading.Loaded.{Loaded}
-use Rattle.clock.specs.declared.opening.CycleOpened.{CycleOpened}
+use Rattle.clock.specs.Loading.{Loaded}
+use Rattle.clock.specs.Opening.{CycleOpened}
 use Rattle.clock.specs.State.{no_clock}
 use Rattle.clock.specs.Sound.{sound}
 use Rattle.clock.specs.Loading as loading
 use Rattle.clock.specs.Loading.{LoadSays}
 use Rattle.clock.specs.Opening as opening
 use Rattle.clock.specs.Opening.{OpenCycleSays}
-use Rattle.measuring.specs.declared.FrameMeasured.{FrameMeasured}
+use Rattle.measuring.specs.Measuring.{FrameMeasured}
 use Rattle.measuring.specs.Measuring as measuring
 use Rattle.measuring.specs.Measuring.{MeasureSays}
-use Rattle.closing.specs.declared.CycleClosed.{CycleClosed}
+use Rattle.closing.specs.Closing.{CycleClosed}
 use Rattle.closing.specs.Closing as closing
 use Rattle.closing.specs.Closing.{CloseSays}
 use Rattle.clock_claims.specs.History.{Call, load, open_cycle, measure, close_cycle, Answer, loaded, opened, measured, closed, Since, Past, nothing, since, of_cycles, past_of, answers_of}
@@ -28,12 +28,12 @@ use Rattle.clock_claims.specs.History.{Call, load, open_cycle, measure, close_cy
 
 -- One call on a clock state, with any result that its statement allows: what it answers, and the state that comes back.
 abbrev pub Makes : Clock → Call → Answer → Clock → Type 0
-Makes c (load settings) a d = (r : Loaded) × LoadSays settings r × (a ≡ loaded (loading.told r.answer)) × (d ≡ r.clock)
-Makes c (open_cycle cycle) a d = (r : CycleOpened) × OpenCycleSays c cycle r × (a ≡ opened (opening.told r.answer)) × (d ≡ r.clock)
+Makes c (load settings) a d = (r : Loaded) × LoadSays settings r × (a ≡ loaded (loading.told r.answer)) × (d ≡ r.state)
+Makes c (open_cycle cycle) a d = (r : CycleOpened) × OpenCycleSays c cycle r × (a ≡ opened (opening.told r.answer)) × (d ≡ r.state)
 Makes c (measure status observed action_point) a d =
-    (r : FrameMeasured) × MeasureSays c status observed action_point r × (a ≡ measured (measuring.told r.answer)) × (d ≡ r.clock)
+    (r : FrameMeasured) × MeasureSays c status observed action_point r × (a ≡ measured (measuring.told r.answer)) × (d ≡ r.state)
 Makes c (close_cycle offset_control rate_control) a d =
-    (r : CycleClosed) × CloseSays c offset_control rate_control r × (a ≡ closed (closing.told r.answer)) × (d ≡ r.clock)
+    (r : CycleClosed) × CloseSays c offset_control rate_control r × (a ≡ closed (closing.told r.answer)) × (d ≡ r.state)
 
 -- A call on a clock state may leave this state.
 abbrev pub Leaves : Clock → Call → Clock → Type 0
@@ -89,9 +89,9 @@ pub record JustLoaded (sheet : Settings) (c : Clock) : Type 0 where
   pub settings : c.settings ≡ sheet
   pub even : c.even ≡ empty
   pub odd : c.odd ≡ empty
-  pub opened : c.opened ≡ NoCycle
-  pub last_closed : c.last_closed ≡ NoCycle
+  pub opened : c.opened ≡ None
+  pub last_closed : c.last_closed ≡ None
   pub rate : c.rate.0 ≡ pos 0
 
 abbrev pub LoadFresh : Type 0
-LoadFresh = (settings : Settings) (r : Loaded) → LoadSays settings r → (loading.told r.answer).number ≡ 0 → JustLoaded settings r.clock
+LoadFresh = (settings : Settings) (r : Loaded) → LoadSays settings r → (loading.told r.answer).number ≡ 0 → JustLoaded settings r.state

@@ -1,6 +1,6 @@
 -- What has happened, from the calls alone: the rule of a history. It names no clock state, no row and no count, but works out the
 -- measurements in use, each with the cycle it was taken in (01, "Clock").
-use Rattle.std.specs.Prelude.{ℕ, ◌-◌, Bool, false, not, ◌&&◌, ◌||◌, cond, List, [], ◌∷◌, eqb, leb, ℤ, pos, length}
+use Rattle.std.specs.Prelude.{ℕ, ◌-◌, Bool, false, not, ◌&&◌, ◌||◌, cond, Option, None, Some, is_some, unwrap_or, List, [], ◌∷◌, eqb, leb, ℤ, pos, length}
 use Rattle.refusal.specs.Refusal.{Line, ◌when◌, first, if_accepted}
 use Rattle.base_types.specs.declared.channel.Channel.{Channel}
 use Rattle.base_types.specs.declared.cycle.Cycle.{Cycle}
@@ -18,10 +18,8 @@ use Rattle.sync_list.specs.declared.row.Measurement.{Measurement}
 use Rattle.sync_list.specs.Lists.{is_among}
 use Rattle.measurements.specs.Measurements.{Taken, different_ids, same_channel}
 use Rattle.measurements.specs.Terms.{offset_values_of, rate_values_of}
-use Rattle.clock.specs.declared.state.CycleOrNone.{CycleOrNone}
-use Rattle.clock.specs.declared.state.CycleOrNone.TheVariants.{NoCycle, Is}
 use Rattle.base_types.specs.Cycle.{is_odd}
-use Rattle.clock.specs.State.{is_there, cycle_in, is_cycle}
+use Rattle.clock.specs.State.{is_cycle}
 use Rattle.clock.specs.Loading as loading
 use Rattle.measuring.specs.Measuring as measuring
 use Rattle.measuring.specs.Measuring.{frame_of, no_sync_frame, deviation_with, measurement_with}
@@ -54,8 +52,8 @@ pub record InUse : Type 0 where
 -- Since settings were loaded: which cycle is open, which was closed last, the rate that is stored, and the measurements in use.
 pub record Since : Type 0 where
   pub settings : Settings
-  pub opened : CycleOrNone
-  pub last_closed : CycleOrNone
+  pub opened : Option Cycle
+  pub last_closed : Option Cycle
   pub rate : ℤ
   pub in_use : List InUse
 
@@ -66,7 +64,7 @@ pub data Past : Type 0 where
 
 -- "Loading gives a fresh clock state".
 abbrev pub just_loaded : Settings → Since
-just_loaded settings = record { settings = settings; opened = NoCycle; last_closed = NoCycle; rate = pos 0; in_use = [] }
+just_loaded settings = record { settings = settings; opened = None; last_closed = None; rate = pos 0; in_use = [] }
 
 -- The measurements in use of the cycles that are meant.
 unfoldable pub of_cycles : (ℕ → Bool) → List InUse → List Taken
@@ -86,7 +84,7 @@ kept_of cycle (m ∷ ms) = cond (eqb m.cycle cycle) (m ∷ kept_of cycle ms) (ke
 
 -- The cycle that is open; 0 where none is.
 abbrev pub current : Since → Cycle
-current s = cycle_in s.opened
+current s = unwrap_or s.opened (record { 0 = 0 })
 
 -- The measurements of the cycle that is open.
 abbrev pub of_current : Since → List Taken
@@ -97,7 +95,7 @@ abbrev pub after_opening : Since → Cycle → Since
 after_opening s cycle =
     record {
       settings = s.settings;
-      opened = Is cycle;
+      opened = Some cycle;
       last_closed = s.last_closed;
       rate = s.rate;
       in_use = cond (is_odd cycle && is_cycle (cycle.0 - 1) s.last_closed) (kept_of (cycle.0 - 1) s.in_use) [];
@@ -153,8 +151,8 @@ abbrev pub after_closing : Since → Since
 after_closing s =
     record {
       settings = s.settings;
-      opened = NoCycle;
-      last_closed = Is (current s);
+      opened = None;
+      last_closed = Some (current s);
       rate = (rate_in s).value.0;
       in_use = s.in_use;
     }
@@ -162,12 +160,12 @@ after_closing s =
 -- ---- refusals, by what has happened
 
 abbrev pub open_refusals : Since → Cycle → List Line
-open_refusals s cycle = 11 when cycle_too_high cycle.0 ∷ 19 when is_there s.opened ∷ []
+open_refusals s cycle = 11 when cycle_too_high cycle.0 ∷ 19 when is_some s.opened ∷ []
 
 abbrev pub measure_refusals : Since → Status → Microtick → Microtick → List Line
 measure_refusals s status observed action_point =
     23 when not (slot.sound status)
-    ∷ 18 when not (is_there s.opened)
+    ∷ 18 when not (is_some s.opened)
     ∷ 14 when (above_time_limit observed.0 || above_time_limit action_point.0)
     ∷ 20 when no_sync_frame status
     ∷ 22 when not (eqb (frame_of status).cycle.0 (current s).0)
@@ -177,7 +175,7 @@ measure_refusals s status observed action_point =
 
 abbrev pub close_refusals : Since → ℤ → ℤ → List Line
 close_refusals s offset_control rate_control =
-    18 when not (is_there s.opened) ∷ 21 when (not_a_control offset_control || not_a_control rate_control) ∷ []
+    18 when not (is_some s.opened) ∷ 21 when (not_a_control offset_control || not_a_control rate_control) ∷ []
 
 -- ---- the rule of a history
 
@@ -196,7 +194,7 @@ next (since s) (close_cycle offset_control rate_control) = since (if_accepted (f
 
 -- What a call answers. Where nothing is loaded, every call but a load is refused with 23.
 abbrev pub answer : Past → Call → Answer
-answer past (load settings) = loaded (record { number = first (loading.load_refusals settings); field = first_out_of_range settings })
+answer past (load settings) = loaded (record { number = first (loading.load_refusals settings); field = unwrap_or (first_out_of_range settings) 0 })
 answer nothing (open_cycle cycle) = opened 23
 answer nothing (measure status observed action_point) = measured (record { number = 23; deviation = pos 0 })
 answer nothing (close_cycle offset_control rate_control) = closed (record { number = 23; report = no_report })

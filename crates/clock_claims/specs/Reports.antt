@@ -10,7 +10,7 @@ use Rattle.measurements.specs.Terms.{offset_values_of, rate_values_of}
 use Rattle.clock.specs.declared.state.Clock.{Clock}
 use Rattle.base_types.specs.Cycle.{is_odd}
 use Rattle.clock.specs.State.{current_cycle, list_of}
-use Rattle.closing.specs.declared.CycleClosed.{CycleClosed}
+use Rattle.closing.specs.Closing.{CycleClosed}
 use Rattle.closing.specs.declared.Report.{Report}
 use Rattle.closing.specs.Closing as closing
 use Rattle.closing.specs.Closing.{stored_term, report_with, CloseSays}

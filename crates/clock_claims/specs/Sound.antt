@@ -2,6 +2,7 @@
 -- different IDs, each 1 to 2047 and once per channel, with deviations in their range, and the stored rate is within field 6", and
 -- "Every accepted call returns a sound state." 02, C-17: "all listed measurements carry the mark of the loaded settings; a state that breaks
 -- this isn't sound". 01 speaks of a list of measurements; a list of ours has rows, and stands for one.
+use Rattle.std.specs.Prelude.{None, Option, Some}
 use Rattle.std.specs.Prelude.{ℕ, ◌≤◌, ◌≡◌, true, false, ◌↔◌, ℤ, pos, neg_ℤ, length}
 use mathlib.Core.List.{List, [], ◌∷◌, Memᴰ}
 use Rattle.std.specs.Int.Signed.{le_z}
@@ -15,26 +16,23 @@ use Rattle.slot.specs.declared.status.Status.{Status}
 use Rattle.settings_claims.specs.Sheet.{AllInRange}
 use Rattle.base_types.specs.declared.microtick.Microtick.{Microtick}
 use Rattle.base_types.specs.Microtick.{lowest_deviation, highest_deviation}
-use Rattle.sync_list.specs.declared.row.Measured.TheVariants.{Nothing}
 use Rattle.sync_list.specs.declared.row.Row.{Row}
 use Rattle.sync_list.specs.declared.list.SyncList.{SyncList}
 use Rattle.sync_list.specs.Lists.{row_count, listed, id_of}
 use Rattle.measurements.specs.Measurements.{Taken, stands_for, different_ids}
-use Rattle.clock.specs.declared.state.CycleOrNone.{CycleOrNone}
-use Rattle.clock.specs.declared.state.CycleOrNone.TheVariants.{Is}
 use Rattle.clock.specs.declared.state.Clock.{Clock}
-use Rattle.clock.specs.declared.loading.Loaded.{Loaded}
-use Rattle.clock.specs.declared.opening.CycleOpened.{CycleOpened}
+use Rattle.clock.specs.Loading.{Loaded}
+use Rattle.clock.specs.Opening.{CycleOpened}
 use Rattle.clock.specs.State.{no_clock}
 use Rattle.clock.specs.Sound.{sound}
 use Rattle.clock.specs.Loading as loading
 use Rattle.clock.specs.Loading.{LoadSays}
 use Rattle.clock.specs.Opening as opening
 use Rattle.clock.specs.Opening.{OpenCycleSays}
-use Rattle.measuring.specs.declared.FrameMeasured.{FrameMeasured}
+use Rattle.measuring.specs.Measuring.{FrameMeasured}
 use Rattle.measuring.specs.Measuring as measuring
 use Rattle.measuring.specs.Measuring.{MeasureSays}
-use Rattle.closing.specs.declared.CycleClosed.{CycleClosed}
+use Rattle.closing.specs.Closing.{CycleClosed}
 use Rattle.closing.specs.Closing as closing
 use Rattle.closing.specs.Closing.{CloseSays}
 use Rattle.clock_claims.specs.Typed.{TypedClock}
@@ -73,14 +71,14 @@ DifferentRows (row ∷ rows) = ((later : Row) → Memᴰ later rows → id_of la
 -- number of rows is the number of different IDs.
 pub record GoodRows (l : SyncList) : Type 0 where
   pub counted : l.count ≤ row_count
-  pub measured : (row : Row) → Memᴰ row (listed l) → row.on_a ≡ Nothing → row.on_b ≡ Nothing → ⊥
+  pub measured : (row : Row) → Memᴰ row (listed l) → row.on_a ≡ None → row.on_b ≡ None → ⊥
   pub different : DifferentRows (listed l)
 
 -- ---- a clock state
 
 -- "its cycles at most 63", of one that is there.
-abbrev pub CycleAtMostHighest : CycleOrNone → Type 0
-CycleAtMostHighest c = (cycle : Cycle) → c ≡ Is cycle → cycle.0 ≤ highest_cycle
+abbrev pub CycleAtMostHighest : Option Cycle → Type 0
+CycleAtMostHighest c = (cycle : Cycle) → c ≡ Some cycle → cycle.0 ≤ highest_cycle
 
 -- 01's sentence in words, with 02's.
 pub record SoundClock (c : Clock) : Type 0 where
@@ -104,18 +102,18 @@ NoClockUnsound = sound no_clock ≡ false
 -- ---- "Every accepted call returns a sound state."
 
 abbrev pub LoadedSound : Type 0
-LoadedSound = (settings : Settings) (r : Loaded) → LoadSays settings r → (loading.told r.answer).number ≡ 0 → sound r.clock ≡ true
+LoadedSound = (settings : Settings) (r : Loaded) → LoadSays settings r → (loading.told r.answer).number ≡ 0 → sound r.state ≡ true
 
 abbrev pub OpenedSound : Type 0
 OpenedSound =
-    (clock : Clock) (cycle : Cycle) (r : CycleOpened) → OpenCycleSays clock cycle r → opening.told r.answer ≡ 0 → sound r.clock ≡ true
+    (clock : Clock) (cycle : Cycle) (r : CycleOpened) → OpenCycleSays clock cycle r → opening.told r.answer ≡ 0 → sound r.state ≡ true
 
 abbrev pub MeasuredSound : Type 0
 MeasuredSound =
     (clock : Clock) (status : Status) (observed action_point : Microtick) (r : FrameMeasured) → TypedClock clock
-    → MeasureSays clock status observed action_point r → (measuring.told r.answer).number ≡ 0 → sound r.clock ≡ true
+    → MeasureSays clock status observed action_point r → (measuring.told r.answer).number ≡ 0 → sound r.state ≡ true
 
 abbrev pub ClosedSound : Type 0
 ClosedSound =
     (clock : Clock) (offset_control rate_control : ℤ) (r : CycleClosed) → CloseSays clock offset_control rate_control r
-    → (closing.told r.answer).number ≡ 0 → sound r.clock ≡ true
+    → (closing.told r.answer).number ≡ 0 → sound r.state ≡ true

@@ -8,15 +8,15 @@ use Rattle.settings_claims.specs.Sheet.{FieldTold}
 use Rattle.base_types.specs.declared.microtick.Microtick.{Microtick}
 use Rattle.base_types.specs.Microtick.{time_limit}
 use Rattle.clock.specs.declared.state.Clock.{Clock}
-use Rattle.clock.specs.declared.loading.Loaded.{Loaded}
-use Rattle.clock.specs.declared.opening.CycleOpened.{CycleOpened}
+use Rattle.clock.specs.Loading.{Loaded}
+use Rattle.clock.specs.Opening.{CycleOpened}
 use Rattle.clock.specs.State.{fresh, no_clock}
 use Rattle.clock.specs.Sound.{sound}
 use Rattle.clock.specs.Loading as loading
 use Rattle.clock.specs.Opening as opening
-use Rattle.measuring.specs.declared.FrameMeasured.{FrameMeasured}
+use Rattle.measuring.specs.Measuring.{FrameMeasured}
 use Rattle.measuring.specs.Measuring as measuring
-use Rattle.closing.specs.declared.CycleClosed.{CycleClosed}
+use Rattle.closing.specs.Closing.{CycleClosed}
 use Rattle.closing.specs.Closing as closing
 use Rattle.clock_claims.specs.History.{Call, load, open_cycle, measure, close_cycle, Answer, closed, nothing, answer, next, past_of}
 use Rattle.clock_claims.specs.Histories.{MakesAll, Holds, JustLoaded}
@@ -29,31 +29,31 @@ use Rattle.clock_claims.specs.Reports.{IsOverMeasurements}
 pub record LoadedWell (settings : Settings) (r : Loaded) : Type 0 where
   pub in_order : InOrder (loading.load_refusals settings) (loading.told r.answer).number
   pub field : FieldTold settings (loading.told r.answer).field
-  pub accepted : (loading.told r.answer).number ≡ 0 → (r.clock ≡ fresh settings) × JustLoaded settings r.clock × (sound r.clock ≡ true)
-  pub refused : ((loading.told r.answer).number ≡ 0 → ⊥) → r.clock ≡ no_clock
+  pub accepted : (loading.told r.answer).number ≡ 0 → (r.state ≡ fresh settings) × JustLoaded settings r.state × (sound r.state ≡ true)
+  pub refused : ((loading.told r.answer).number ≡ 0 → ⊥) → r.state ≡ no_clock
 
 -- `opened`, `measured`, `closed`: the number comes in 01's order; an accepted call leaves what the rule says, which is sound, and a refused
 -- one the very state that was handed in, with zeros in the answer.
 pub record OpenedWell (c : Clock) (cycle : Cycle) (r : CycleOpened) : Type 0 where
   pub in_order : InOrder (opening.opening_refusals c cycle) (opening.told r.answer)
-  pub accepted : opening.told r.answer ≡ 0 → (r.clock ≡ opening.opened_on c cycle) × (sound r.clock ≡ true)
-  pub refused : (opening.told r.answer ≡ 0 → ⊥) → r.clock ≡ c
+  pub accepted : opening.told r.answer ≡ 0 → (r.state ≡ opening.opened_on c cycle) × (sound r.state ≡ true)
+  pub refused : (opening.told r.answer ≡ 0 → ⊥) → r.state ≡ c
 
 pub record MeasuredWell (c : Clock) (status : Status) (observed action_point : Microtick) (r : FrameMeasured) : Type 0 where
   pub in_order : InOrder (measuring.measure_refusals c status observed action_point) (measuring.told r.answer).number
   pub accepted : (measuring.told r.answer).number ≡ 0
       → ((measuring.told r.answer).deviation ≡ measuring.deviation_by c status observed action_point)
-      × (r.clock ≡ measuring.measured_on c status (measuring.measurement_by c status observed action_point))
-      × (sound r.clock ≡ true)
-  pub refused : ((measuring.told r.answer).number ≡ 0 → ⊥) → ((measuring.told r.answer).deviation ≡ pos 0) × (r.clock ≡ c)
+      × (r.state ≡ measuring.measured_on c status (measuring.measurement_by c status observed action_point))
+      × (sound r.state ≡ true)
+  pub refused : ((measuring.told r.answer).number ≡ 0 → ⊥) → ((measuring.told r.answer).deviation ≡ pos 0) × (r.state ≡ c)
 
 -- And what is reported of a closed cycle is 01's, over the measurements that the lists stand for.
 pub record ClosedWell (c : Clock) (offset_control rate_control : ℤ) (r : CycleClosed) : Type 0 where
   pub in_order : InOrder (closing.closing_refusals c offset_control rate_control) (closing.told r.answer).number
   pub accepted : (closing.told r.answer).number ≡ 0
-      → ((closing.told r.answer).report ≡ closing.report_of c offset_control rate_control) × (r.clock ≡ closing.closed_on c) × (sound r.clock ≡ true)
+      → ((closing.told r.answer).report ≡ closing.report_of c offset_control rate_control) × (r.state ≡ closing.closed_on c) × (sound r.state ≡ true)
   pub over : (closing.told r.answer).number ≡ 0 → IsOverMeasurements c offset_control rate_control (closing.told r.answer).report
-  pub refused : ((closing.told r.answer).number ≡ 0 → ⊥) → ((closing.told r.answer).report ≡ closing.no_report) × (r.clock ≡ c)
+  pub refused : ((closing.told r.answer).number ≡ 0 → ⊥) → ((closing.told r.answer).report ≡ closing.no_report) × (r.state ≡ c)
 
 -- ---- whole sequences
 
@@ -103,4 +103,4 @@ pub record Played (calls : List Call) (c : Clock) : Type 0 where
 -- `closed_after`: closing after any sequence answers what the history says: its number, its report, and the state that holds.
 pub record ClosedAfter (calls : List Call) (offset_control rate_control : ℤ) (r : CycleClosed) : Type 0 where
   pub answers : closed (closing.told r.answer) ≡ answer (past_of nothing calls) (close_cycle offset_control rate_control)
-  pub holds : Holds (next (past_of nothing calls) (close_cycle offset_control rate_control)) r.clock
+  pub holds : Holds (next (past_of nothing calls) (close_cycle offset_control rate_control)) r.state

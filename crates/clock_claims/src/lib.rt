@@ -7,11 +7,12 @@ ghost use Rattle.clock_claims.specs.Sound.{SoundClock};
 ghost use Rattle.clock_claims.specs.Histories.{Leaves};
 ghost use Rattle.clock_claims.specs.Witnesses.{LoadedWell, OpenedWell, MeasuredWell, ClosedWell, control_of, call_of, calls_of, Played, ClosedAfter};
 
-use base_types::{Cycle, Microtick};
-use clock::{Clock, CycleOpened, Loaded};
-use closing::CycleClosed;
-use measuring::FrameMeasured;
-use settings::Settings;
+use base_types::{Cycle, Microtick, SignedMicrotick};
+use clock::{Clock, CycleRefusal};
+use closing::{CloseRefusal, Report};
+use measuring::MeasureRefusal;
+use refusal::Answered;
+use settings::{SettingOutOfRange, Settings};
 use slot::Status;
 
 // Whether a clock state is sound: exactly where it meets 01's sentence.
@@ -29,13 +30,13 @@ pub fn none_is_sound() -> bool
 }
 
 // The answer of each entry, and the state beside it.
-pub fn loaded(settings: Settings) -> Loaded
+pub fn loaded(settings: Settings) -> Answered<(), SettingOutOfRange, Clock>
     ensures { LoadedWell settings result }
 {
     clock::load(settings)
 }
 
-pub fn opened(state: Clock, cycle: Cycle) -> CycleOpened
+pub fn opened(state: Clock, cycle: Cycle) -> Answered<(), CycleRefusal, Clock>
     ensures { OpenedWell state cycle result }
 {
     clock::open_cycle(state, cycle)
@@ -46,33 +47,33 @@ pub fn measured(
     status: Status,
     observed: Microtick,
     action_point: Microtick,
-) -> FrameMeasured
+) -> Answered<SignedMicrotick, MeasureRefusal, Clock>
     ensures { MeasuredWell state status observed action_point result }
 {
     measuring::measure(state, status, observed, action_point)
 }
 
-pub fn closed(state: Clock, offset_control: i32, rate_control: i32) -> CycleClosed
+pub fn closed(
+    state: Clock,
+    offset_control: i32,
+    rate_control: i32,
+) -> Answered<Report, CloseRefusal, Clock>
     ensures { ClosedWell state offset_control rate_control result }
 {
     closing::close_cycle(state, offset_control, rate_control)
 }
 
-// A control from a number: -1, 0, 1, or 2, which is none.
+// A control from a number: -1, 0, 1, or 2, which is none. Calls, times and controls are numbers here, and no enum: `EveryCall` and the edit
+// `no_time_above_the_limit` speak of those numbers.
 fn control_of(number: u64) -> i32
     ensures { result ≡ control_of number }
 {
-    let rest = number % 4;
-    if rest == 0 {
-        return -1;
+    match number % 4 {
+        0 => -1,
+        1 => 0,
+        2 => 1,
+        _ => 2,
     }
-    if rest == 1 {
-        return 0;
-    }
-    if rest == 2 {
-        return 1;
-    }
-    2
 }
 
 // How many times there are up to one above the limit.
@@ -81,7 +82,7 @@ const SPAN: u64 = Microtick::LIMIT as u64 + 2;
 // Where the second time starts in a number: behind the kind and the first.
 const SECOND: u64 = 8 * SPAN;
 
-// One call, by its number.
+// One call, by its number. (Numbers, as for `control_of`; so are the two functions below.)
 fn called(
     sheet: Settings,
     other_sheet: Settings,
@@ -92,42 +93,32 @@ fn called(
 ) -> Clock
     ensures { Leaves state (call_of sheet other_sheet status other_status number) result }
 {
-    let kind = number % 8;
     let first = number / 8 % SPAN;
     let second = number / SECOND % SPAN;
-    if kind == 0 {
-        let result = clock::load(sheet);
-        return result.clock;
+    match number % 8 {
+        0 => clock::load(sheet).state,
+        1 => clock::load(other_sheet).state,
+        2 => clock::open_cycle(state, Cycle((first % 256) as u8)).state,
+        3 => {
+            measuring::measure(
+                state,
+                status,
+                Microtick(first as u32),
+                Microtick(second as u32),
+            )
+            .state
+        }
+        4 => {
+            measuring::measure(
+                state,
+                other_status,
+                Microtick(first as u32),
+                Microtick(second as u32),
+            )
+            .state
+        }
+        _ => closing::close_cycle(state, control_of(first), control_of(second)).state,
     }
-    if kind == 1 {
-        let result = clock::load(other_sheet);
-        return result.clock;
-    }
-    if kind == 2 {
-        let cycle = (first % 256) as u8;
-        let result = clock::open_cycle(state, Cycle(cycle));
-        return result.clock;
-    }
-    if kind == 3 {
-        let result = measuring::measure(
-            state,
-            status,
-            Microtick(first as u32),
-            Microtick(second as u32),
-        );
-        return result.clock;
-    }
-    if kind == 4 {
-        let result = measuring::measure(
-            state,
-            other_status,
-            Microtick(first as u32),
-            Microtick(second as u32),
-        );
-        return result.clock;
-    }
-    let result = closing::close_cycle(state, control_of(first), control_of(second));
-    result.clock
 }
 
 // Plays one call for each number, loads and refused calls among them, from the all-zero state on. The state at the end. Every kind of
@@ -142,12 +133,8 @@ pub fn played(
     ensures { Played (calls_of sheet other_sheet status other_status numbers.now) result }
 {
     let mut state = Clock::none();
-    let mut i = 0;
-    while i < numbers.len() {
-        let number = numbers[i];
-        let next = called(sheet, other_sheet, status, other_status, state, number);
-        state = next;
-        i += 1;
+    for number in numbers {
+        state = called(sheet, other_sheet, status, other_status, state, *number);
     }
     state
 }
@@ -161,7 +148,7 @@ pub fn closed_after(
     numbers: &[u64],
     offset_control: i32,
     rate_control: i32,
-) -> CycleClosed
+) -> Answered<Report, CloseRefusal, Clock>
     ensures { ClosedAfter (calls_of sheet other_sheet status other_status numbers.now) offset_control rate_control result }
 {
     let state = played(sheet, other_sheet, status, other_status, numbers);

@@ -1,3 +1,1 @@
-pub mod StatementLaws
 pub mod RangeLaws
-pub mod AnswerLaws

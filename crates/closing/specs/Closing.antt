@@ -1,5 +1,8 @@
 -- Closing a cycle: what it reports, and the clock state that comes back (01, "Clock").
-use Rattle.std.specs.Prelude.{ℕ, ◌≡◌, false, not, ◌||◌, cond, List, [], ◌∷◌, ℤ, pos}
+use Rattle.std.specs.Prelude.{ℕ, ◌≡◌, false, not, ◌||◌, cond, is_some, List, [], ◌∷◌, None, Some, Result, Ok, Err, ℤ, pos}
+use Rattle.std.specs.Result.{result_unwrap_or}
+use Rattle.refusal.specs.Answer.{number_in}
+use Rattle.refusal.specs.declared.Answered.{Answered}
 use Rattle.refusal.specs.Refusal.{Line, ◌when◌, first, if_accepted}
 use Rattle.settings.specs.declared.Settings.{Settings}
 use Rattle.settings.specs.Sheet.{offset_limit, rate_limit, drift_damping, external_offset_unit, external_rate_unit, no_mark}
@@ -9,21 +12,19 @@ use Rattle.correction.specs.Terms.{offset_term, rate_term}
 use Rattle.correction.specs.External.{not_a_control, with_external}
 use Rattle.sync_list.specs.Lists.{listed}
 use Rattle.list_values.specs.Values.{offset_values, rate_values}
-use Rattle.clock.specs.declared.state.CycleOrNone.TheVariants.{NoCycle, Is}
 use Rattle.clock.specs.declared.state.Clock.{Clock}
 use Rattle.closing.specs.declared.Report.{Report}
-use Rattle.closing.specs.declared.Closing.{Closing}
-use Rattle.closing.specs.declared.Closing.TheVariants as closing
-use Rattle.closing.specs.declared.CycleClosed.{CycleClosed}
+use Rattle.closing.specs.declared.CloseRefusal.{CloseRefusal}
+use Rattle.closing.specs.declared.CloseRefusal.TheVariants.{NotSound, NoCycleOpen, NotAControl}
 use Rattle.base_types.specs.Cycle.{is_odd}
-use Rattle.clock.specs.State.{is_there, current_cycle, list_of}
+use Rattle.clock.specs.State.{current_cycle, list_of}
 use Rattle.clock.specs.Sound.{sound}
 
 -- "Close cycle: 23, 18, 21."
 abbrev pub closing_refusals : Clock → ℤ → ℤ → List Line
 closing_refusals clock offset_control rate_control =
     23 when not (sound clock)
-    ∷ 18 when not (is_there clock.opened)
+    ∷ 18 when not (is_some clock.opened)
     ∷ 21 when (not_a_control offset_control || not_a_control rate_control)
     ∷ []
 
@@ -75,8 +76,8 @@ closed_with clock rate =
       settings = clock.settings;
       even = clock.even;
       odd = clock.odd;
-      opened = NoCycle;
-      last_closed = Is (current_cycle clock);
+      opened = None;
+      last_closed = Some (current_cycle clock);
       rate = rate;
     }
 
@@ -105,12 +106,28 @@ pub record Told : Type 0 where
   pub number : ℕ
   pub report : Report
 
--- 01's number and report for each case.
+-- The number of each refusal.
+abbrev pub number_of : CloseRefusal → ℕ
+number_of NotSound = 23
+number_of NoCycleOpen = 18
+number_of NotAControl = 21
+
+-- An answer is the report, or why the cycle is not closed.
+abbrev pub Closing : Type 0
+Closing = Result Report CloseRefusal
+
+-- The answer, and the clock state beside it.
+abbrev pub CycleClosed : Type 0
+CycleClosed = Answered Report CloseRefusal Clock
+
 abbrev pub told : Closing → Told
-told (closing.Closed report) = record { number = 0; report = report }
-told closing.NotSound = record { number = 23; report = no_report }
-told closing.NoCycleOpen = record { number = 18; report = no_report }
-told closing.NotAControl = record { number = 21; report = no_report }
+told answer = record { number = number_in number_of answer; report = result_unwrap_or answer no_report }
+
+-- What closing works out before the state is put beside a refusal: the report with the state that comes after it, or the first refusal.
+abbrev pub ClosedSays : Clock → ℤ → ℤ → Result (Report × Clock) CloseRefusal → Type 0
+ClosedSays clock offset_control rate_control (Ok closed) =
+    (first (closing_refusals clock offset_control rate_control) ≡ 0) × (closed ≡ (report_of clock offset_control rate_control, closed_on clock))
+ClosedSays clock offset_control rate_control (Err refusal) = number_of refusal ≡ first (closing_refusals clock offset_control rate_control)
 
 -- What is to be told where the first refusal is n, or 0 for none.
 abbrev pub to_tell : Clock → ℤ → ℤ → ℕ → Told
@@ -120,4 +137,4 @@ to_tell clock offset_control rate_control n = record { number = n; report = if_a
 -- handed in.
 pub record CloseSays (clock : Clock) (offset_control rate_control : ℤ) (r : CycleClosed) : Type 0 where
   pub answers : told r.answer ≡ to_tell clock offset_control rate_control (first (closing_refusals clock offset_control rate_control))
-  pub leaves : r.clock ≡ if_accepted (first (closing_refusals clock offset_control rate_control)) (closed_on clock) clock
+  pub leaves : r.state ≡ if_accepted (first (closing_refusals clock offset_control rate_control)) (closed_on clock) clock

@@ -6,14 +6,16 @@
 ghost use Rattle.std.specs.Prelude.{◌≡◌, true};
 ghost use Rattle.correction.specs.External.{sign_of};
 ghost use Rattle.clock.specs.Sound.{sound};
-ghost use Rattle.closing.specs.Closing.{told, offset_found, rate_found, report_of, closed_with, CloseSays};
+ghost use Rattle.closing.specs.declared.CloseRefusal.TheVariants.{NotAControl as CloseRefusal-as-NotAControl};
+ghost use Rattle.closing.specs.Closing.{number_of, offset_found, rate_found, report_of, closed_with, ClosedSays, CloseSays, no_report};
 
 use base_types::SignedMicrotick;
-use clock::{Clock, CycleOrNone};
-use correction::{Control, NamedControl, Term};
-use settings::Mark;
+use clock::Clock;
+use correction::{Control, NotAControl, Term};
+use refusal::{Answered, Refusal};
+use settings::{Field, Mark};
 
-// What a closed cycle reports.
+// What a closed cycle reports. (Flat: terms and flags, as 01 lists them.)
 #[derive(Clone, Copy)]
 pub struct Report {
     pub offset: SignedMicrotick,
@@ -28,42 +30,9 @@ pub struct Report {
     pub mark: Mark,
 }
 
-// What closing answers: the report, or why the cycle is not closed.
-#[derive(Clone, Copy)]
-pub enum Closing {
-    Closed(Report),
-    NotSound,
-    NoCycleOpen,
-    NotAControl,
-}
-
-impl Closing {
-    // 01's number: 0, or that of the refusal.
-    pub fn number(self) -> u8
-        ensures { result ≡ (told self).number }
-    {
-        match self {
-            Closing::Closed(_) => 0,
-            Closing::NotSound => 23,
-            Closing::NoCycleOpen => 18,
-            Closing::NotAControl => 21,
-        }
-    }
-
-    // The report, all zeros with a refusal.
-    pub fn report(self) -> Report
-        ensures { result ≡ (told self).report }
-    {
-        let Closing::Closed(report) = self else {
-            return Report::NONE;
-        };
-        report
-    }
-}
-
 impl Report {
     // All zeros, all flags clear: what stands beside a refusal.
-    const NONE: Report = Report {
+    pub const NONE: Report = Report {
         offset: SignedMicrotick(0),
         rate: SignedMicrotick(0),
         offset_missing: false,
@@ -73,47 +42,76 @@ impl Report {
         ids: 0,
         mark: Mark(0),
     };
+
+    // The constant is its rule's (DECISIONS 108).
+    fn constants()
+        ensures { Report.NONE ≡ no_report }
+    {}
 }
 
+// Why a cycle is not closed.
 #[derive(Clone, Copy)]
-pub struct CycleClosed {
-    pub answer: Closing,
-    pub clock: Clock,
+pub enum CloseRefusal {
+    NotSound,
+    NoCycleOpen,
+    NotAControl,
 }
 
-// Closes the open cycle. The tests come in 01's order; with a refusal the state is the one handed in.
-pub fn close_cycle(clock: Clock, offset_control: i32, rate_control: i32) -> CycleClosed
+impl Refusal for CloseRefusal {
+    ghost number_of = { number_of };
+
+    fn number(self) -> u8 {
+        match self {
+            CloseRefusal::NotSound => 23,
+            CloseRefusal::NoCycleOpen => 18,
+            CloseRefusal::NotAControl => 21,
+        }
+    }
+}
+
+impl From<NotAControl> for CloseRefusal {
+    ghost from_gives = { λ _ refusal. refusal ≡ CloseRefusal-as-NotAControl };
+
+    fn from(_refusal: NotAControl) -> CloseRefusal {
+        CloseRefusal::NotAControl
+    }
+}
+
+// Closes the open cycle. With a refusal the state is the one handed in.
+#[tactic(auto, unfolding(refusal::specs::Refusal::first))]
+pub fn close_cycle(
+    clock: Clock,
+    offset_control: i32,
+    rate_control: i32,
+) -> Answered<Report, CloseRefusal, Clock>
     ensures { CloseSays clock offset_control rate_control result }
 {
-    if !clock::is_sound(clock) {
-        return refused(Closing::NotSound, clock);
-    }
-    let opened = clock.opened;
-    if !opened.is_there() {
-        return refused(Closing::NoCycleOpen, clock);
-    }
-    let NamedControl::Is(offset) = Control::named(offset_control) else {
-        return refused(Closing::NotAControl, clock);
-    };
-    let NamedControl::Is(rate) = Control::named(rate_control) else {
-        return refused(Closing::NotAControl, clock);
-    };
-    let found = rate_found(clock);
-    let report = report_of(clock, found, offset, rate);
-    let stored = found.value;
-    CycleClosed {
-        answer: Closing::Closed(report),
-        clock: closed_with(clock, stored),
+    match closed(clock, offset_control, rate_control) {
+        Ok((report, next)) => Answered::accepted(report, next),
+        Err(refusal) => Answered::refused(refusal, clock),
     }
 }
 
-fn refused(answer: Closing, handed_in: Clock) -> CycleClosed
-    ensures { result ≡ record { answer = answer; clock = handed_in } }
+// The report, and the state that comes after it. The tests come in 01's order.
+#[tactic(auto, unfolding(refusal::specs::Refusal::first))]
+fn closed(
+    clock: Clock,
+    offset_control: i32,
+    rate_control: i32,
+) -> Result<(Report, Clock), CloseRefusal>
+    ensures { ClosedSays clock offset_control rate_control result }
 {
-    CycleClosed {
-        answer,
-        clock: handed_in,
+    if !clock::is_sound(clock) {
+        return Err(CloseRefusal::NotSound);
     }
+    if clock.opened.is_none() {
+        return Err(CloseRefusal::NoCycleOpen);
+    }
+    let offset = Control::try_from(offset_control)?;
+    let rate = Control::try_from(rate_control)?;
+    let found = rate_found(clock);
+    let report = report_of(clock, found, offset, rate);
+    Ok((report, closed_with(clock, found.value)))
 }
 
 // The offset term, without its external term.
@@ -123,7 +121,11 @@ fn offset_found(clock: Clock) -> Term
     let settings = clock.settings;
     let list = clock.list_of(clock.current_cycle());
     let values = list_values::offset_values(list);
-    correction::offset_term(values, settings.sends_sync, settings.offset_limit())
+    correction::offset_term(
+        values,
+        settings.sends_sync,
+        settings.get(Field::OffsetLimit),
+    )
 }
 
 // The rate term, without its external term: in an even cycle it is the stored rate.
@@ -131,24 +133,21 @@ fn rate_found(clock: Clock) -> Term
     requires { sound clock ≡ true }
     ensures { result ≡ rate_found clock }
 {
-    let settings = clock.settings;
-    let even = clock.even;
-    let odd = clock.odd;
-    let stored = clock.rate;
     if !clock.current_cycle().is_odd() {
         return Term {
-            value: stored,
+            value: clock.rate,
             is_missing: false,
             is_limited: false,
         };
     }
-    let values = list_values::rate_values(odd, even);
+    let settings = clock.settings;
+    let values = list_values::rate_values(clock.odd, clock.even);
     correction::rate_term(
         values,
         settings.sends_sync,
-        stored,
-        settings.drift_damping(),
-        settings.rate_limit(),
+        clock.rate,
+        settings.get(Field::DriftDamping),
+        settings.get(Field::RateLimit),
     )
 }
 
@@ -158,20 +157,17 @@ fn report_of(clock: Clock, rate: Term, offset_control: Control, rate_control: Co
     ensures { result ≡ report_of clock (sign_of offset_control) (sign_of rate_control) }
 {
     let settings = clock.settings;
-    let mark = settings.mark;
     let list = clock.list_of(clock.current_cycle());
     let offset = offset_found(clock);
-    let offset_value = offset.value;
-    let rate_value = rate.value;
     let offset_reported = correction::with_external(
-        offset_value,
+        offset.value,
         offset_control,
-        settings.external_offset_unit(),
+        settings.get(Field::ExternalOffsetUnit),
     );
     let rate_reported = correction::with_external(
-        rate_value,
+        rate.value,
         rate_control,
-        settings.external_rate_unit(),
+        settings.get(Field::ExternalRateUnit),
     );
     Report {
         offset: offset_reported,
@@ -181,7 +177,7 @@ fn report_of(clock: Clock, rate: Term, offset_control: Control, rate_control: Co
         offset_limited: offset.is_limited,
         rate_limited: rate.is_limited,
         ids: list.count,
-        mark,
+        mark: settings.mark,
     }
 }
 
@@ -189,16 +185,10 @@ fn report_of(clock: Clock, rate: Term, offset_control: Control, rate_control: Co
 fn closed_with(clock: Clock, rate: SignedMicrotick) -> Clock
     ensures { result ≡ closed_with clock rate }
 {
-    let settings = clock.settings;
-    let even = clock.even;
-    let odd = clock.odd;
-    let closed = clock.current_cycle();
     Clock {
-        settings,
-        even,
-        odd,
-        opened: CycleOrNone::NoCycle,
-        last_closed: CycleOrNone::Is(closed),
+        opened: None,
+        last_closed: Some(clock.current_cycle()),
         rate,
+        ..clock
     }
 }

@@ -1,2 +1,1 @@
 pub mod ControlLaws
-pub mod TermLaws

@@ -1,8 +1,9 @@
 -- Both terms, before the external term is added (01, "Clock").
-use Rattle.std.specs.Prelude.{ℕ, Bool, true, false, ◌||◌, cond, List, [], ◌∷◌, ◌++◌, leb, ℤ, pos, neg_ℤ, ◌+ℤ◌, ◌-ℤ◌, take}
+use Rattle.std.specs.Prelude.{ℕ, Bool, true, false, ◌||◌, cond, List, [], ◌∷◌, ◌++◌, leb, ℤ, pos, neg_ℤ, ◌+ℤ◌, ◌-ℤ◌, take, Option, None, Some}
 use Rattle.std.specs.Int.Signed.{lt_z}
 use Rattle.midpoint.specs.Midpoint.{midpoint}
 use Rattle.base_types.specs.Microtick.{whole}
+use Rattle.base_types.specs.declared.microtick.SignedMicrotick.{SignedMicrotick}
 use Rattle.correction.specs.declared.term.Term.{Term}
 use Rattle.correction.specs.declared.term.Values.{Values}
 
@@ -14,13 +15,14 @@ most_ids = 15
 abbrev pub values_in : Values → List ℤ
 values_in v = cond (leb v.count most_ids) (take v.count v.numbers) []
 
-abbrev pub is_none : List ℤ → Bool
-is_none [] = true
-is_none (v ∷ vs) = false
-
 -- "add one value 0 if this node sends sync (H)".
 abbrev pub with_own : Bool → List ℤ → List ℤ
 with_own sends_sync values = values ++ cond sends_sync (pos 0 ∷ []) []
+
+-- "Otherwise add one value 0 if this node sends sync (H), and take the midpoint": none where there is no value.
+abbrev pub middle_of : Bool → List ℤ → Option SignedMicrotick
+middle_of sends_sync [] = None
+middle_of sends_sync (v ∷ vs) = Some (record { 0 = midpoint (with_own sends_sync (v ∷ vs)) })
 
 -- "then damp by d: x > d gives x - d, x < -d gives x + d, else 0".
 abbrev pub damped : ℕ → ℤ → ℤ

@@ -14,7 +14,7 @@ pub fn deviation(
 ) -> SignedMicrotick
     ensures { result.0 ≡ held (deviation_deviation observed.0 correction delay action_point.0) }
 {
-    let sent = observed.0 as i64 - correction as i64 - delay as i64;
-    let wide = sent - action_point.0 as i64;
+    let sent = i64::from(observed.0) - i64::from(correction) - i64::from(delay);
+    let wide = sent - i64::from(action_point.0);
     SignedMicrotick::holding(wide)
 }

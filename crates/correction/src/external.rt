@@ -1,9 +1,10 @@
 // The external term, which a host may add to each reported term.
 ghost use Rattle.std.specs.Prelude.{◌≡◌};
 ghost use Rattle.base_types.specs.Microtick.{held};
-ghost use Rattle.correction.specs.External.{control_named, sign_of, external_term, with_external};
+ghost use Rattle.correction.specs.External.{control_named, refusal_number, sign_of, external_term, with_external};
 
 use base_types::SignedMicrotick;
+use refusal::Refusal;
 
 // What a host asks of a term: a unit less, nothing, or a unit more.
 #[derive(Clone, Copy)]
@@ -13,28 +14,31 @@ pub enum Control {
     More,
 }
 
-// A number that a host gives for a control: it is one, or it is not.
+// Refusal 21: a number that is no control.
 #[derive(Clone, Copy)]
-pub enum NamedControl {
-    Is(Control),
-    NotAControl,
+pub struct NotAControl;
+
+impl Refusal for NotAControl {
+    ghost number_of = { refusal_number };
+
+    fn number(self) -> u8 {
+        21
+    }
 }
 
-impl Control {
-    // The control that 01 gives this number.
-    pub fn named(number: i32) -> NamedControl
-        ensures { result ≡ control_named number }
-    {
-        if number == -1 {
-            return NamedControl::Is(Control::Less);
+// The control that 01 gives a number.
+impl TryFrom<i32> for Control {
+    type Error = NotAControl;
+
+    ghost try_from_gives = { λ number named. named ≡ control_named number };
+
+    fn try_from(number: i32) -> Result<Control, NotAControl> {
+        match number {
+            -1 => Ok(Control::Less),
+            0 => Ok(Control::Same),
+            1 => Ok(Control::More),
+            _ => Err(NotAControl),
         }
-        if number == 0 {
-            return NamedControl::Is(Control::Same);
-        }
-        if number == 1 {
-            return NamedControl::Is(Control::More);
-        }
-        NamedControl::NotAControl
     }
 }
 
@@ -42,9 +46,9 @@ impl Control {
 fn external_term(control: Control, unit: u32) -> i64
     ensures { result ≡ external_term (sign_of control) unit }
 {
-    let wide = unit as i64;
+    let wide = i64::from(unit);
     match control {
-        Control::Less => 0 - wide,
+        Control::Less => -wide,
         Control::Same => 0,
         Control::More => wide,
     }
@@ -54,6 +58,5 @@ fn external_term(control: Control, unit: u32) -> i64
 pub fn with_external(term: SignedMicrotick, control: Control, unit: u32) -> SignedMicrotick
     ensures { result.0 ≡ held (with_external term.0 (sign_of control) unit) }
 {
-    let wide = term.0 as i64 + external_term(control, unit);
-    SignedMicrotick::holding(wide)
+    SignedMicrotick::holding(i64::from(term.0) + external_term(control, unit))
 }

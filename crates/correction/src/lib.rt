@@ -10,6 +10,6 @@ mod term;
 mod value;
 
 pub use arrival::deviation;
-pub use external::{Control, NamedControl, with_external};
+pub use external::{Control, NotAControl, with_external};
 pub use term::{MOST_IDS, Term, Values, offset_term, rate_term};
-pub use value::{Deviations, Value, offset_value, rate_value};
+pub use value::{Deviations, offset_value, rate_value};

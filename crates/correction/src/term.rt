@@ -1,28 +1,28 @@
 // Both terms, as they are found: before the external term is added.
-ghost use Rattle.std.specs.Prelude.{◌≡◌, ◌≤◌};
-ghost use Rattle.midpoint.specs.Midpoint.{midpoint};
+ghost use Rattle.std.specs.Prelude.{◌≡◌, ◌+ℤ◌};
 ghost use Rattle.base_types.specs.Microtick.{held};
-ghost use Rattle.correction.specs.Terms.{most_ids, values_in, is_none, with_own, damped as terms_damped, limited as terms_limited, offset_term, rate_term_by};
+ghost use Rattle.correction.specs.Terms.{most_ids, values_in, middle_of, missing as terms_missing, damped as terms_damped, limited as terms_limited, offset_term, rate_term_by};
 
 use base_types::SignedMicrotick;
 
 // The most IDs that a list holds: the highest value of field 4.
 pub const MOST_IDS: usize = 15;
 
-// Returns the constant, which no contract can name, and so holds it to its rule (DECISIONS 108).
-fn most_ids() -> usize
-    ensures { result ≡ most_ids }
-{
-    MOST_IDS
-}
+// The constant is its rule's (DECISIONS 108).
+fn constants()
+    ensures { MOST_IDS ≡ most_ids }
+{}
 
-// The values that a midpoint is taken of: the first `count` numbers. There is room for this node's own zero behind them.
+// The values that a midpoint is taken of: the first `count` numbers. There is room for this node's own zero behind them. Fixed memory and a
+// count, and no `Vec`: no entry may fail for lack of memory.
 #[derive(Clone, Copy)]
 pub struct Values {
     pub numbers: [i32; midpoint::MOST],
     pub count: usize,
 }
 
+// A missing term has a value too, so this is no Option: the stored rate stands for a missing rate. A limited one has its
+// limit.
 #[derive(Clone, Copy)]
 pub struct Term {
     pub value: SignedMicrotick,
@@ -34,15 +34,10 @@ pub struct Term {
 pub fn offset_term(values: Values, sends_sync: bool, limit: u32) -> Term
     ensures { result ≡ offset_term (values_in values) sends_sync limit }
 {
-    if values.has_none() {
-        return Term {
-            value: SignedMicrotick(0),
-            is_missing: true,
-            is_limited: false,
-        };
-    }
-    let middle = values.middle(sends_sync);
-    limited(middle, limit)
+    let Some(middle) = values.middle(sends_sync) else {
+        return Term::missing(SignedMicrotick(0));
+    };
+    Term::limited(middle, limit)
 }
 
 // The rate term, by the rate value of each ID. Where there is none the stored rate stays as it is.
@@ -55,84 +50,73 @@ pub fn rate_term(
 ) -> Term
     ensures { result ≡ rate_term_by held (values_in values) sends_sync stored.0 damping limit }
 {
-    if values.has_none() {
-        return Term {
-            value: stored,
-            is_missing: true,
-            is_limited: false,
-        };
-    }
-    let middle = values.middle(sends_sync);
-    let wide = middle.0 as i64 + stored.0 as i64;
-    let rate = SignedMicrotick::holding(wide);
-    limited(damped(rate, damping), limit)
+    let Some(middle) = values.middle(sends_sync) else {
+        return Term::missing(stored);
+    };
+    let rate = sum(middle, stored);
+    Term::limited(damped(rate, damping), limit)
 }
 
 impl Values {
-    // Whether there is no value. A count that leaves no room for the own zero counts as none: no list of a clock state gives one.
-    fn has_none(self) -> bool
-        ensures { result ≡ is_none (values_in self) }
+    // The midpoint of the values, with one value 0 more where this node sends sync; none where there is no value. A count that leaves no
+    // room for the own zero counts as none: no list of a clock state gives one.
+    fn middle(self, sends_sync: bool) -> Option<SignedMicrotick>
+        ensures { result ≡ middle_of sends_sync (values_in self) }
     {
-        if self.count == 0 {
-            return true;
+        if self.count == 0 || MOST_IDS < self.count {
+            return None;
         }
-        MOST_IDS < self.count
+        let mut numbers = self.numbers;
+        numbers[self.count] = 0;
+        let taken = self.count + usize::from(sends_sync);
+        Some(SignedMicrotick(midpoint::midpoint(numbers, taken)))
+    }
+}
+
+impl Term {
+    // A term that is missing, with what stands for it.
+    fn missing(value: SignedMicrotick) -> Term
+        ensures { result ≡ terms_missing value.0 }
+    {
+        Term {
+            value,
+            is_missing: true,
+            is_limited: false,
+        }
     }
 
-    // The midpoint of the values, with one value 0 more where this node sends sync.
-    fn middle(self, sends_sync: bool) -> SignedMicrotick
-        requires { self.count ≤ most_ids }
-        ensures { result.0 ≡ midpoint (with_own sends_sync (values_in self)) }
+    // The term x, set to the limit that it lies outside of, and whether it does.
+    fn limited(x: SignedMicrotick, limit: u32) -> Term
+        ensures { result ≡ terms_limited limit x.0 }
     {
-        let count = self.count;
-        let mut numbers = self.numbers;
-        numbers[count] = 0;
-        if sends_sync {
-            return SignedMicrotick(midpoint::midpoint(numbers, count + 1));
+        let highest = i64::from(limit);
+        let within = i64::from(x.0).clamp(-highest, highest);
+        Term {
+            value: SignedMicrotick(within as i32),
+            is_missing: false,
+            is_limited: limit < x.amount(),
         }
-        SignedMicrotick(midpoint::midpoint(numbers, count))
     }
+}
+
+// The sum of both, as the signed type holds it.
+fn sum(x: SignedMicrotick, y: SignedMicrotick) -> SignedMicrotick
+    ensures { result.0 ≡ held (x.0 +ℤ y.0) }
+{
+    SignedMicrotick::holding(i64::from(x.0) + i64::from(y.0))
 }
 
 // Brings x toward zero by d.
 fn damped(x: SignedMicrotick, d: u32) -> SignedMicrotick
     ensures { result.0 ≡ terms_damped d x.0 }
 {
-    let rate = x.0 as i64;
-    let damping = d as i64;
+    let rate = i64::from(x.0);
+    let damping = i64::from(d);
     if damping < rate {
         return SignedMicrotick((rate - damping) as i32);
     }
-    if rate < 0 - damping {
+    if rate < -damping {
         return SignedMicrotick((rate + damping) as i32);
     }
     SignedMicrotick(0)
-}
-
-// Sets x to the limit that it lies outside of, and says whether it does.
-fn limited(x: SignedMicrotick, limit: u32) -> Term
-    ensures { result ≡ terms_limited limit x.0 }
-{
-    let term = x.0 as i64;
-    let highest = limit as i64;
-    let lowest = 0 - highest;
-    if highest < term {
-        return Term {
-            value: SignedMicrotick(highest as i32),
-            is_missing: false,
-            is_limited: true,
-        };
-    }
-    if term < lowest {
-        return Term {
-            value: SignedMicrotick(lowest as i32),
-            is_missing: false,
-            is_limited: true,
-        };
-    }
-    Term {
-        value: x,
-        is_missing: false,
-        is_limited: false,
-    }
 }

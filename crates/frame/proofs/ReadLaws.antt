@@ -1,23 +1,25 @@
--- The header of bytes, their payload, and where it lies.
-use Prim.Native.Nat.{ℕ, zero, suc, ◌+◌, ◌*◌, ◌-◌, ◌≤◌, ◌<◌}
-use mathlib.Core.Path.{◌≡◌, refl, sym, ap, ◌∙◌}
-use mathlib.Core.Bool.{Bool, cond}
-use mathlib.Core.List.{List, []}
-use native.Mathlib.Omega.{arith}
-use lib.ListN.{length, take, drop, length-take, take-append-drop, drop_of_length-le}
-use lib.Seq.{length-take-le, take-add, drop_at}
-use borrow.Author.Tests.{ltb-false}
-use Rattle.numbers.proofs.Truth.{neither}
-use Rattle.refusal.specs.Refusal.{first, numbered}
-use Rattle.refusal.proofs.FirstLaws.{first_zero, not_refused}
-use Rattle.division.specs.Bits.{odd, bits, number, bytes_bits}
-use Rattle.division.proofs.BitsLaws.{bits_number}
-use Rattle.division.proofs.BytesLaws.{length-bytes, bytes_append}
-use Rattle.base_types.specs.Channel.{not_a_channel}
-use Rattle.header.specs.Layout.{longest_frame, header_in}
+-- The header of bytes, their trailer and their payload.
+use Prim.Native.Nat.{ℕ, ◌*◌, ◌+◌, ◌-◌, ◌<◌, ◌^◌, ◌≤◌}
+use Rattle.division.proofs.BitsLaws.{bits_number, number_lt}
+use Rattle.division.proofs.BytesLaws.{bytes_append, length-bytes}
+use Rattle.division.specs.Bits.{bits, bytes_bits, number, odd}
+use Rattle.frame.specs.Read.{header_read, payload_read, refusals, trailer_read}
 use Rattle.header.proofs.HeaderLaws.{header_front}
-use Rattle.frame.specs.Refusals.{too_short}
-use Rattle.frame.specs.Read.{header_read, payload_read, refusals, payload_offset, part_offset}
+use Rattle.header.specs.Layout.{header_in, longest_frame}
+use Rattle.lent_bytes.proofs.NumberLaws.{number_in_all}
+use Rattle.lent_bytes.specs.Putting.{number_in}
+use Rattle.numbers.proofs.Truth.{neither}
+use Rattle.refusal.proofs.FirstLaws.{not_refused}
+use Rattle.refusal.specs.Refusal.{first, numbered}
+use borrow.Author.Tests.{ltb-false}
+use lib.ListN.{drop, length, length-drop, take, take-append-drop}
+use lib.Seq.{length-take-le, take_all}
+use mathlib.Core.List.{List}
+use mathlib.Core.Path.{ap, refl, sym, ◌∙◌, ◌≡◌}
+use native.Mathlib.Omega.{arith}
+use mir.Syntax.{w32}
+use mir.Val.{Fits}
+use Rattle.std.proofs.lemmas.List.{drop-take}
 
 -- the header that bytes begin with is that of their first five
 pub length-five : (bytes : List ℕ) → 5 ≤ length bytes → length (bytes_bits (take 5 bytes)) ≡ 40
@@ -33,34 +35,38 @@ pub header_of_number : (bytes : List ℕ) → 5 ≤ length bytes → header_in (
 header_of_number bytes h =
     ap header_in (bits_number 40 (bytes_bits (take 5 bytes)) (length-five bytes h)) ∙ sym (header_of_five bytes h)
 
--- from 5 up to size minus 3 there are 8 bytes fewer than the size, those from byte 5 on
-pub payload_from_5 : (bytes : List ℕ) → 8 ≤ length bytes → take (length bytes - 8) (drop 5 bytes) ≡ payload_read bytes
+-- the header in the first five bytes is the bytes'
+pub header_of_sent : (bytes : List ℕ) (sent : ℕ) → 8 ≤ length bytes → sent ≡ number_in (take 5 bytes) → header_in (bits 40 sent) ≡ header_read bytes
+header_of_sent bytes sent h e =
+    let five : length (take 5 bytes) ≡ 5 = length-take-le 5 bytes (omega arith) in
+    ap (λ (n : ℕ). header_in (bits 40 n)) (e ∙ number_in_all (take 5 bytes) (omega arith)) ∙ header_of_number bytes (omega arith)
+
+-- the number in the last three is the bytes' trailer, and fits
+module _ (bytes : List ℕ) (trailer : ℕ) (h : 8 ≤ length bytes) where
+  pub trailer_is : trailer ≡ number_in (take (length bytes - (length bytes - 3)) (drop (length bytes - 3) bytes)) → trailer ≡ trailer_read bytes
+  trailer_is e =
+      let end = length bytes - 3 in
+      e ∙ ap number_in (take_all (length bytes - end) (drop end bytes) (omega (arith, length-drop end bytes)))
+      ∙ number_in_all (drop end bytes) (omega (arith, length-drop end bytes))
+
+  pub trailer_fits : trailer ≡ number_in (take (length bytes - (length bytes - 3)) (drop (length bytes - 3) bytes)) → Fits w32 trailer
+  trailer_fits e =
+      let end = length bytes - 3 in
+      let size : length (bytes_bits (drop end bytes)) ≡ 24 = length-bytes (drop end bytes) ∙ omega (arith, length-drop end bytes) in
+      let small : trailer_read bytes < 2 ^ 24 = rw size at (number_lt (bytes_bits (drop end bytes))) in
+      omega (arith, trailer_is e)
+
+-- from 5 up to size minus 3 lies the payload
+pub payload_from_5 : (bytes : List ℕ) → 8 ≤ length bytes → take (length bytes - 3 - 5) (drop 5 bytes) ≡ payload_read bytes
 payload_from_5 bytes h =
-    let rest = take (length bytes - 8) (drop 5 bytes) in
-    let e : length bytes - 3 ≡ 5 + (length bytes - 8) = omega arith in
-    sym
-    (ap (drop 5) (ap (λ (k : ℕ). take k bytes) e ∙ take-add 5 (length bytes - 8) bytes)
-    ∙ drop_at (take 5 bytes) rest 5 (length-take-le 5 bytes (omega arith)))
+    let e : length bytes - 3 ≡ 5 + (length bytes - 3 - 5) = omega arith in
+    sym (ap (λ (k : ℕ). drop 5 (take k bytes)) e ∙ drop-take 5 (length bytes - 3 - 5) bytes)
 
--- fewer than 8 bytes have none there
-pub payload_none : (bytes : List ℕ) → length bytes < 8 → [] ≡ payload_read bytes
-payload_none bytes h =
-    let short : length (take (length bytes - 3) bytes) ≤ 5 = rw (length-take (length bytes - 3) bytes) (omega arith) in
-    sym (drop_of_length-le (take (length bytes - 3) bytes) {i = 5} short)
+-- bytes that are accepted are not fewer than the shortest frame's, and not more than the longest one's
+pub accepted_long : (channel : ℕ) (bytes : List ℕ) → first (refusals channel bytes) ≡ 0 → 8 ≤ length bytes
+unfolding numbered
+accepted_long channel bytes none = ltb-false (length bytes) 8 (not_refused (refusals channel bytes) refl none 2)
 
--- where nothing is refused there are 8 bytes at least, so that the payload lies from byte 5 on
-pub lies_from_5 : (channel : ℕ) (bytes : List ℕ)
-    → part_offset (first (refusals channel bytes)) bytes ≡ payload_offset (first (refusals channel bytes))
-lies_from_5 channel bytes = by (first (refusals channel bytes)) refl
-  where
-    by : (n : ℕ) → first (refusals channel bytes) ≡ n → part_offset n bytes ≡ payload_offset n
-    by zero e =
-        let z1 = first_zero 0 (not_a_channel channel) _ e in
-        let z2 = first_zero 1 (too_short bytes) _ z1.1 in
-        ap (λ (b : Bool). cond b 0 5) z2.0
-    by (suc n) e = refl
-
--- bytes that are accepted are not more than the longest frame's
 pub accepted_size : (channel : ℕ) (bytes : List ℕ) → first (refusals channel bytes) ≡ 0 → length bytes ≤ longest_frame
 unfolding numbered
 accepted_size channel bytes none =

@@ -1,5 +1,7 @@
 -- The entries `read` and `payload`: what they answer for a channel number and bytes.
-use Rattle.std.specs.Prelude.{ℕ, ◌+◌, ◌-◌, ◌≡◌, Bool, ◌||◌, cond, List, [], ◌∷◌, eqb, length, take, drop}
+use Rattle.std.specs.Prelude.{ℕ, ◌+◌, ◌-◌, ◌≡◌, Bool, ◌||◌, cond, List, [], ◌∷◌, eqb, length, take, drop, Result, Ok, Err}
+use Rattle.std.specs.Result.{result_unwrap_or}
+use Rattle.refusal.specs.Answer.{number_in}
 use Rattle.refusal.specs.Refusal.{Line, ◌when◌, first, if_accepted}
 use Rattle.division.specs.Bits.{number, bytes_bits}
 use Rattle.base_types.specs.declared.channel.Channel.{Channel}
@@ -9,8 +11,8 @@ use Rattle.checksum.specs.Pair.{no_checksums}
 use Rattle.header.specs.declared.Header.{Header}
 use Rattle.header.specs.Layout.{header_checksums, header_in, no_header}
 use Rattle.header.specs.Refusals.{startup_without_sync}
-use Rattle.frame.specs.declared.Reading.{Reading}
-use Rattle.frame.specs.declared.Reading.TheVariants.{Accepted, NotAChannel, TooShort, BadSize, HeaderChecksumDiffers, WordsNotSize, IdZero, StartupWithoutSync, FrameChecksumDiffers}
+use Rattle.frame.specs.declared.ReadRefusal.{ReadRefusal}
+use Rattle.frame.specs.declared.ReadRefusal.TheVariants.{NotAChannel, TooShort, BadSize, HeaderChecksumDiffers, WordsNotSize, IdZero, StartupWithoutSync, FrameChecksumDiffers}
 use Rattle.frame.specs.Refusals.{too_short, bad_size, header_checksum_differs, words_not_size, id_zero, frame_checksums, frame_checksum_differs}
 
 -- ---- what is read
@@ -42,16 +44,39 @@ refused_with n checksums = record { number = n; header = no_header; checksums = 
 abbrev pub refused : ℕ → Told
 refused n = refused_with n no_checksums
 
+-- The number of each refusal.
+abbrev pub number_of : ReadRefusal → ℕ
+number_of NotAChannel = 1
+number_of TooShort = 2
+number_of BadSize = 3
+number_of (HeaderChecksumDiffers checksums) = 4
+number_of WordsNotSize = 5
+number_of IdZero = 6
+number_of StartupWithoutSync = 7
+number_of (FrameChecksumDiffers checksums) = 8
+
+-- The two checksums that each tells.
+abbrev pub checksums_of : ReadRefusal → ChecksumPair
+checksums_of NotAChannel = no_checksums
+checksums_of TooShort = no_checksums
+checksums_of BadSize = no_checksums
+checksums_of (HeaderChecksumDiffers checksums) = checksums
+checksums_of WordsNotSize = no_checksums
+checksums_of IdZero = no_checksums
+checksums_of StartupWithoutSync = no_checksums
+checksums_of (FrameChecksumDiffers checksums) = checksums
+
+-- An answer is the header, or why the bytes are refused.
+abbrev pub Reading : Type 0
+Reading = Result Header ReadRefusal
+
+abbrev pub checksums_in : Reading → ChecksumPair
+checksums_in (Ok header) = no_checksums
+checksums_in (Err refusal) = checksums_of refusal
+
 abbrev pub told : Reading → Told
-told (Accepted h) = record { number = 0; header = h; checksums = no_checksums }
-told NotAChannel = refused 1
-told TooShort = refused 2
-told BadSize = refused 3
-told (HeaderChecksumDiffers checksums) = refused_with 4 checksums
-told WordsNotSize = refused 5
-told IdZero = refused 6
-told StartupWithoutSync = refused 7
-told (FrameChecksumDiffers checksums) = refused_with 8 checksums
+told answer =
+    record { number = number_in number_of answer; header = result_unwrap_or answer no_header; checksums = checksums_in answer }
 
 -- The refusals of reading on a channel, and, before them, that of a number that names none: "Read: 1 to 8 as numbered".
 abbrev pub refusals_on : Channel → List ℕ → List Line
@@ -108,9 +133,6 @@ ReadOnSays channel bytes answer = told answer ≡ rule_on channel bytes
 abbrev pub PayloadSays : ℕ → List ℕ → List ℕ → Type 0
 PayloadSays channel bytes payload = payload ≡ part_rule (first (refusals channel bytes)) bytes
 
-abbrev pub PartSays : Reading → List ℕ → List ℕ → Type 0
-PartSays reading bytes payload = payload ≡ part_rule (told reading).number bytes
-
 -- "the payload is handed back as the caller's own bytes, uncopied": the part lies in the slice that was handed in, from its byte 5 on;
 -- the empty part of a refusal lies at its first byte. A place is a block of memory and an offset in it.
 abbrev pub behind : ℕ → ℕ × ℕ → ℕ × ℕ
@@ -119,11 +141,5 @@ behind offset place = (place.0, offset + place.1)
 abbrev pub payload_offset : ℕ → ℕ
 payload_offset refusal = if_accepted refusal 5 0
 
-abbrev pub part_offset : ℕ → List ℕ → ℕ
-part_offset refusal bytes = if_accepted refusal (cond (too_short bytes) 0 5) 0
-
 abbrev pub PayloadLies : ℕ → List ℕ → ℕ × ℕ → ℕ × ℕ → Type 0
 PayloadLies channel bytes place at = at ≡ behind (payload_offset (first (refusals channel bytes))) place
-
-abbrev pub PartLies : Reading → List ℕ → ℕ × ℕ → ℕ × ℕ → Type 0
-PartLies reading bytes place at = at ≡ behind (part_offset (told reading).number bytes) place

@@ -1,20 +1,28 @@
 // Frames read from bytes (document 01, "Frame layout").
 //
-// Entries: `read` and `payload` on a channel number and bytes. For the crates above: `read_on` for a channel that is known to be one.
+// Entries: `read` and `payload` on a channel number and bytes. For the crates above: `read_on` for a channel that is known to be one,
+// and the two checksums that a refusal or an answer tells, `ReadRefusal::checksums` and `checksums_told`.
 // What a header is stands in the crate `header`.
 #![tactic(auto)]
 
-ghost use Rattle.std.specs.Prelude.{◌≡◌};
-ghost use Rattle.frame.specs.Read.{told, ReadSays, ReadOnSays, PayloadSays, PayloadLies, PartSays, PartLies};
+ghost use Rattle.std.specs.Prelude.{◌≡◌, ◌≤◌, length};
+ghost use Rattle.division.specs.Bits.{bits};
+ghost use Rattle.header.specs.Layout.{header_in};
+ghost use Rattle.frame.specs.declared.ReadRefusal.TheVariants.{NotAChannel as ReadRefusal-as-NotAChannel};
+ghost use Rattle.frame.specs.Refusals.{bad_size, frame_checksums};
+ghost use Rattle.frame.specs.Read.{header_read, trailer_read, number_of, checksums_of, told, ReadSays, ReadOnSays, PayloadSays, PayloadLies};
 
-use base_types::{Channel, Named};
+use base_types::{Channel, NotAChannel, Slot};
 use checksum::ChecksumPair;
 use header::Header;
+use refusal::Refusal;
 
-// What reading answers: the header, or what is wrong with the bytes. A checksum that differs comes with the one that was expected.
+// What reading answers: the header, or what is wrong with the bytes.
+pub type Reading = Result<Header, ReadRefusal>;
+
+// A checksum that differs comes with the one that was expected.
 #[derive(Clone, Copy)]
-pub enum Reading {
-    Accepted(Header),
+pub enum ReadRefusal {
     NotAChannel,
     TooShort,
     BadSize,
@@ -25,119 +33,133 @@ pub enum Reading {
     FrameChecksumDiffers(ChecksumPair),
 }
 
-impl Reading {
-    // 01's number: 0, or that of the refusal.
-    pub fn number(self) -> u8
-        ensures { result ≡ (told self).number }
-    {
+impl Refusal for ReadRefusal {
+    ghost number_of = { number_of };
+
+    fn number(self) -> u8 {
         match self {
-            Reading::Accepted(_) => 0,
-            Reading::NotAChannel => 1,
-            Reading::TooShort => 2,
-            Reading::BadSize => 3,
-            Reading::HeaderChecksumDiffers(_) => 4,
-            Reading::WordsNotSize => 5,
-            Reading::IdZero => 6,
-            Reading::StartupWithoutSync => 7,
-            Reading::FrameChecksumDiffers(_) => 8,
+            ReadRefusal::NotAChannel => 1,
+            ReadRefusal::TooShort => 2,
+            ReadRefusal::BadSize => 3,
+            ReadRefusal::HeaderChecksumDiffers(_) => 4,
+            ReadRefusal::WordsNotSize => 5,
+            ReadRefusal::IdZero => 6,
+            ReadRefusal::StartupWithoutSync => 7,
+            ReadRefusal::FrameChecksumDiffers(_) => 8,
         }
     }
+}
 
-    // The header, all zeros with a refusal.
-    pub fn header(self) -> Header
-        ensures { result ≡ (told self).header }
-    {
-        let Reading::Accepted(read) = self else {
-            return Header::NONE;
-        };
-        read
+impl From<NotAChannel> for ReadRefusal {
+    ghost from_gives = { λ _ refusal. refusal ≡ ReadRefusal-as-NotAChannel };
+
+    fn from(_refusal: NotAChannel) -> ReadRefusal {
+        ReadRefusal::NotAChannel
     }
+}
 
+impl ReadRefusal {
     // The checksum found in the bytes and the one worked out, 0 for both unless they differ (02, C-18).
     pub fn checksums(self) -> ChecksumPair
-        ensures { result ≡ (told self).checksums }
+        ensures { result ≡ checksums_of self }
     {
         match self {
-            Reading::HeaderChecksumDiffers(checksums) => checksums,
-            Reading::FrameChecksumDiffers(checksums) => checksums,
+            ReadRefusal::HeaderChecksumDiffers(checksums)
+            | ReadRefusal::FrameChecksumDiffers(checksums) => checksums,
             _ => ChecksumPair::NONE,
         }
     }
 }
 
-// Reads a frame on a channel that is given by its number.
+// The two checksums that an answer tells: none with a header.
+pub fn checksums_told(reading: Reading) -> ChecksumPair
+    ensures { result ≡ (told reading).checksums }
+{
+    match reading {
+        Ok(_) => ChecksumPair::NONE,
+        Err(refusal) => refusal.checksums(),
+    }
+}
+
+// Reads a frame on a channel that is given by its number. (A number, as 01's refusal 1 asks.)
+#[tactic(auto, unfolding(refusal::specs::Refusal::first, base_types::specs::Channel::named_by))]
 pub fn read(channel: u8, bytes: &[u8]) -> Reading
     ensures { ReadSays channel bytes.now result }
 {
-    let Named::Is(named) = Channel::named(channel) else {
-        return Reading::NotAChannel;
-    };
+    let named = Channel::try_from(channel)?;
     read_on(named, bytes)
 }
 
+// Refusal 3.
+fn is_bad_size(bytes: &[u8]) -> bool
+    ensures { result ≡ bad_size bytes.now }
+{
+    bytes.len() % 2 == 1 || Header::LONGEST_FRAME < bytes.len()
+}
+
+// The 40 bits of the header, as those of a number.
+#[tactic(auto, using(crate::proofs::ReadLaws::header_of_sent))]
+fn header_bits(bytes: &[u8]) -> u64
+    requires { 8 ≤ length bytes.now }
+    ensures { header_in (bits 40 result) ≡ header_read bytes.now }
+{
+    lent_bytes::number_in(&bytes[0..5])
+}
+
+// The frame checksum in the trailer, and that of all that stands before it.
+#[tactic(auto, using(crate::proofs::ReadLaws::trailer_is))]
+fn frame_checksums(channel: Channel, bytes: &[u8]) -> ChecksumPair
+    requires { 8 ≤ length bytes.now }
+    ensures { result ≡ frame_checksums channel bytes.now (trailer_read bytes.now) }
+{
+    let end = bytes.len() - 3;
+    ChecksumPair {
+        found: lent_bytes::number_in(&bytes[end..]) as u32,
+        expected: checksum::frame_checksum_on(channel, &bytes[0..end]),
+    }
+}
+
 // Reads a frame on a channel. The tests come in 01's order: which refusal is given is part of the answer.
+#[tactic(auto, unfolding(refusal::specs::Refusal::first))]
 pub fn read_on(channel: Channel, bytes: &[u8]) -> Reading
     ensures { ReadOnSays channel bytes.now result }
 {
     if bytes.len() < 8 {
-        return Reading::TooShort;
+        return Err(ReadRefusal::TooShort);
     }
-    if bytes.len() % 2 == 1 {
-        return Reading::BadSize;
+    if is_bad_size(bytes) {
+        return Err(ReadRefusal::BadSize);
     }
-    if Header::LONGEST_FRAME < bytes.len() {
-        return Reading::BadSize;
-    }
-    let sent = lent_bytes::number_in(&bytes[0..5]);
+    let sent = header_bits(bytes);
     let header = header::unpacked(sent);
-    // Worked out before 4 is tried (DECISIONS 70): a build that tries 6 before 5 then differs in the order alone, and is refused for it.
-    let id = header.id.0;
-    let size = 8 + 2 * header.words as usize;
     let checksums = header::checksums_of(sent);
-    if checksums.found != checksums.expected {
-        return Reading::HeaderChecksumDiffers(checksums);
+    if checksums.differ() {
+        return Err(ReadRefusal::HeaderChecksumDiffers(checksums));
     }
-    if size != bytes.len() {
-        return Reading::WordsNotSize;
+    if 8 + 2 * usize::from(header.words) != bytes.len() {
+        return Err(ReadRefusal::WordsNotSize);
     }
-    if id == 0 {
-        return Reading::IdZero;
+    if header.id == Slot(0) {
+        return Err(ReadRefusal::IdZero);
     }
     if header::startup_without_sync(header.startup, header.sync) {
-        return Reading::StartupWithoutSync;
+        return Err(ReadRefusal::StartupWithoutSync);
     }
-    let end = bytes.len() - 3;
-    let trailer = lent_bytes::number_in(&bytes[end..]);
-    let checksums = ChecksumPair {
-        found: trailer as u32,
-        expected: checksum::frame_checksum_on(channel, &bytes[0..end]),
-    };
-    if checksums.found != checksums.expected {
-        return Reading::FrameChecksumDiffers(checksums);
+    let checksums = frame_checksums(channel, bytes);
+    if checksums.differ() {
+        return Err(ReadRefusal::FrameChecksumDiffers(checksums));
     }
-    Reading::Accepted(header)
+    Ok(header)
 }
 
 // The payload of a frame: the caller's own bytes from 5 up to size minus 3. An empty part where the frame is refused.
+#[tactic(auto, using(crate::proofs::ReadLaws::accepted_long, crate::proofs::ReadLaws::payload_from_5))]
 pub fn payload(channel: u8, bytes: &[u8]) -> &[u8]
     ensures payload_says { PayloadSays channel bytes.now result.now }
     ensures payload_lies { PayloadLies channel bytes.now bytes.entry.ref_ptr result.ref_ptr }
 {
-    part(read(channel, bytes), bytes)
-}
-
-// The payload of bytes that have been read already, by what reading answered. It does not look whether the answer is that of these
-// bytes, and so is not for callers outside.
-fn part(reading: Reading, bytes: &[u8]) -> &[u8]
-    ensures part_says { PartSays reading bytes.now result.now }
-    ensures part_lies { PartLies reading bytes.now bytes.entry.ref_ptr result.ref_ptr }
-{
-    if reading.number() != 0 {
+    if read(channel, bytes).is_err() {
         return &bytes[0..0];
     }
-    if bytes.len() < 8 {
-        return &bytes[0..0];
-    }
-    let end = bytes.len() - 3;
-    &bytes[5..end]
+    &bytes[5..bytes.len() - 3]
 }

@@ -6,13 +6,14 @@ use Rattle.refusal.proofs.AnswerLaws.{one_answer}
 use Rattle.refusal.specs.Refusal.{numbered}
 use Rattle.refusal.proofs.FirstLaws.{told_in_order, if_refused}
 use Rattle.base_types.specs.Channel.{channel_of}
-use Rattle.frame.specs.declared.Reading.{Reading}
-use Rattle.frame.specs.declared.Reading.TheVariants as reading
-use Rattle.writing.specs.declared.Writing.{Writing}
-use Rattle.writing.specs.declared.Writing.TheVariants as writing
+use Rattle.frame.specs.declared.ReadRefusal.TheVariants as reading
+use Rattle.writing.specs.declared.WriteRefusal.TheVariants as writing
+use Rattle.std.specs.Prelude.{Ok, Err}
 use Rattle.frame.specs.Read as read
+use Rattle.frame.specs.Read.{Reading}
 use Rattle.lent_bytes.specs.Over.{over}
 use Rattle.writing.specs.Write as write
+use Rattle.writing.specs.Write.{Writing}
 use Rattle.frame_claims.specs.Answers.{ReadOne, ReadOnOne, PayloadOne, WriteOne, ReadInOrder, WriteInOrder, RefusedUnchanged, RefusedEmpty}
 
 -- ---- one answer
@@ -20,21 +21,21 @@ use Rattle.frame_claims.specs.Answers.{ReadOne, ReadOnOne, PayloadOne, WriteOne,
 pub reading_by : read.Told → Reading
 reading_by t =
     get_or
-    (reading.Accepted t.header ∷ reading.NotAChannel ∷ reading.TooShort ∷ reading.BadSize ∷ reading.HeaderChecksumDiffers t.checksums
-    ∷ reading.WordsNotSize ∷ reading.IdZero ∷ reading.StartupWithoutSync ∷ [])
-    t.number (reading.FrameChecksumDiffers t.checksums)
+    (Ok t.header ∷ Err reading.NotAChannel ∷ Err reading.TooShort ∷ Err reading.BadSize ∷ Err (reading.HeaderChecksumDiffers t.checksums)
+    ∷ Err reading.WordsNotSize ∷ Err reading.IdZero ∷ Err reading.StartupWithoutSync ∷ [])
+    t.number (Err (reading.FrameChecksumDiffers t.checksums))
 
 pub reading_by_lem : (r : Reading) → reading_by (read.told r) ≡ r
 unfolding reading_by
-reading_by_lem (reading.Accepted h) = refl
-reading_by_lem reading.NotAChannel = refl
-reading_by_lem reading.TooShort = refl
-reading_by_lem reading.BadSize = refl
-reading_by_lem (reading.HeaderChecksumDiffers checksums) = refl
-reading_by_lem reading.WordsNotSize = refl
-reading_by_lem reading.IdZero = refl
-reading_by_lem reading.StartupWithoutSync = refl
-reading_by_lem (reading.FrameChecksumDiffers checksums) = refl
+reading_by_lem (Ok h) = refl
+reading_by_lem (Err reading.NotAChannel) = refl
+reading_by_lem (Err reading.TooShort) = refl
+reading_by_lem (Err reading.BadSize) = refl
+reading_by_lem (Err (reading.HeaderChecksumDiffers checksums)) = refl
+reading_by_lem (Err reading.WordsNotSize) = refl
+reading_by_lem (Err reading.IdZero) = refl
+reading_by_lem (Err reading.StartupWithoutSync) = refl
+reading_by_lem (Err (reading.FrameChecksumDiffers checksums)) = refl
 
 pub read_one : ReadOne
 read_one channel bytes = one_answer read.told reading_by reading_by_lem
@@ -47,23 +48,23 @@ payload_one channel bytes place p q at at' hp lp hq lq = (hp ∙ sym hq, lp ∙ 
 
 writing_by : write.Told → Writing
 writing_by t =
-    let other = writing.NotAChannel in
+    let other = Err writing.NotAChannel in
     get_or
-    (writing.Written t.length ∷ writing.NotAChannel ∷ other ∷ other ∷ other ∷ other ∷ other ∷ writing.StartupWithoutSync ∷ other
-    ∷ writing.NotAnId ∷ writing.BadPayload ∷ writing.CycleTooHigh ∷ writing.ReservedSet ∷ writing.OutputTooShort ∷ [])
-    t.number writing.NullFrameNotEmpty
+    (Ok t.length ∷ other ∷ other ∷ other ∷ other ∷ other ∷ other ∷ Err writing.StartupWithoutSync ∷ other ∷ Err writing.NotAnId
+    ∷ Err writing.BadPayload ∷ Err writing.CycleTooHigh ∷ Err writing.ReservedSet ∷ Err writing.OutputTooShort ∷ [])
+    t.number (Err writing.NullFrameNotEmpty)
 
 writing_by_lem : (r : Writing) → writing_by (write.told r) ≡ r
 unfolding writing_by
-writing_by_lem (writing.Written size) = refl
-writing_by_lem writing.NotAChannel = refl
-writing_by_lem writing.NotAnId = refl
-writing_by_lem writing.BadPayload = refl
-writing_by_lem writing.CycleTooHigh = refl
-writing_by_lem writing.StartupWithoutSync = refl
-writing_by_lem writing.ReservedSet = refl
-writing_by_lem writing.NullFrameNotEmpty = refl
-writing_by_lem writing.OutputTooShort = refl
+writing_by_lem (Ok size) = refl
+writing_by_lem (Err writing.NotAChannel) = refl
+writing_by_lem (Err writing.NotAnId) = refl
+writing_by_lem (Err writing.BadPayload) = refl
+writing_by_lem (Err writing.CycleTooHigh) = refl
+writing_by_lem (Err writing.StartupWithoutSync) = refl
+writing_by_lem (Err writing.ReservedSet) = refl
+writing_by_lem (Err writing.NullFrameNotEmpty) = refl
+writing_by_lem (Err writing.OutputTooShort) = refl
 
 pub write_one : WriteOne
 write_one channel fields payload before after after' r s hr hs =

@@ -1,5 +1,5 @@
 -- The claims about what is accepted and what is written, from the statements and from what reading tries.
-use Prim.Native.Nat.{ℕ, ◌+◌, ◌/◌, ◌%◌, ◌≤◌}
+use Prim.Native.Nat.{ℕ, suc, ◌+◌, ◌/◌, ◌%◌, ◌≤◌}
 use mathlib.Core.Path.{◌≡◌, refl, sym, ap, ap₂, ◌∙◌, subst}
 use mathlib.Core.Bool.{Bool, true, false}
 use mathlib.Core.List.{List, [], ◌∷◌, ◌++◌, append_assoc}
@@ -8,7 +8,8 @@ use native.Mathlib.Omega.{arith}
 use borrow.Author.Tests.{ltb-true, ltb-false, eqb-false, le-ltb}
 use lib.Dec.{ltb}
 use lib.ListN.{length, take, drop}
-use Rattle.refusal.specs.Refusal.{◌when◌, first, numbered}
+use Rattle.std.specs.Prelude.{Ok, Err}
+use Rattle.refusal.specs.Refusal.{if_accepted, ◌when◌, first, numbered}
 use Rattle.refusal.proofs.FirstLaws.{first_zero, first_skip, first_here, first_end, if_accepted_lem, not_refused}
 use Rattle.numbers.proofs.Truth.{neither}
 use Rattle.numbers.proofs.Walk.{cases}
@@ -27,18 +28,17 @@ use Rattle.header.specs.Layout.{most_payload, whole_header, no_header}
 use Rattle.base_types.specs.Slot.{not_an_id}
 use Rattle.base_types.specs.Cycle.{highest_cycle, cycle_too_high}
 use Rattle.header.specs.Refusals.{startup_without_sync}
-use Rattle.frame.specs.declared.Reading.TheVariants.{Accepted}
-use Rattle.writing.specs.declared.Writing.{Writing}
-use Rattle.writing.specs.declared.Writing.TheVariants.{Written, ReservedSet, NullFrameNotEmpty}
+use Rattle.writing.specs.declared.WriteRefusal.{WriteRefusal}
+use Rattle.writing.specs.declared.WriteRefusal.TheVariants.{ReservedSet, NullFrameNotEmpty}
 use Rattle.frame.specs.Layout.{frame_bits, frame_checksum_of, Frame}
 use Rattle.writing.specs.Refusals.{bad_payload, null_frame_not_empty, output_too_short}
 use Rattle.frame.specs.Read as read
 use Rattle.frame.specs.Read.{header_read, payload_read, refusals_on, ReadSays, PayloadSays}
 use Rattle.writing.specs.Write as write
 use Rattle.lent_bytes.specs.Over.{over}
-use Rattle.writing.specs.Write.{header_of, header_and_payload, frame_bytes, WriteSays}
+use Rattle.writing.specs.Write.{header_of, header_and_payload, frame_bytes, Writing, WriteSays}
 use Rattle.lent_bytes.proofs.OverLaws.{take-over, drop-over, length_over}
-use Rattle.writing.proofs.WriteLaws.{length-frame, write_refused, write_accepted}
+use Rattle.writing.proofs.WriteLaws.{length-frame}
 use Rattle.frame_claims.specs.Exact.{FrameOn, fields_of, ReadExactly, WriteGivesFrame, WriteGivesOnly, EmptyIfNull, NullNotEmpty, WriteGivesEmpty, ReadAndWritten, ComesBack, ReadThenWrite, ReservedNotWritten, NullNotWritten, WrittenAgain, TwoExceptions, WriteThenRead}
 use Rattle.frame_claims.proofs.Answers.{read_one, write_one}
 use Rattle.frame_claims.proofs.FrameLaws.{length_whole, frame_size, good_payload, from_fields}
@@ -64,7 +64,7 @@ module _ {channel : ℕ} {bytes : List ℕ} {header : Header} {payload : List �
       let c = named_is channel f.on f.named in
       first_skip 1 _ c.0 ∙ ap (λ (k : Channel). first (refusals_on k bytes)) c.1 ∙ frame_accepted f.frame
 
-  pub frame_says : ReadSays channel bytes (Accepted header)
+  pub frame_says : ReadSays channel bytes (Ok header)
   frame_says =
       ap (λ (h : Header). record { number = 0; header = h; checksums = no_checksums }) (sym (frame_header f.frame))
       ∙ ap (λ (n : ℕ). read.tells n (channel_of channel) bytes) (sym frame_none)
@@ -75,18 +75,18 @@ module _ {channel : ℕ} {bytes : List ℕ} {header : Header} {payload : List �
 pub read_exactly : ReadExactly
 read_exactly channel bytes r part are says gives header payload = (there, back)
   where
-    there : (r ≡ Accepted header) × (part ≡ payload) → FrameOn channel bytes header payload
+    there : (r ≡ Ok header) × (part ≡ payload) → FrameOn channel bytes header payload
     there e =
         let n = first (read.refusals channel bytes) in
-        let accepted : ReadSays channel bytes (Accepted header) = subst (ReadSays channel bytes) e.0 says in
+        let accepted : ReadSays channel bytes (Ok header) = subst (ReadSays channel bytes) e.0 says in
         let none : n ≡ 0 = sym (ap (λ (t : read.Told). t.number) accepted) in
         let same_header : header ≡ header_read bytes = ap (λ (t : read.Told). t.header) accepted ∙ if_accepted_lem n (header_read bytes) no_header none in
         let same-payload : payload ≡ payload_read bytes = sym e.1 ∙ gives ∙ if_accepted_lem n (payload_read bytes) [] none in
         subst (λ (h : Header). FrameOn channel bytes h payload) (sym same_header)
         (subst (FrameOn channel bytes (header_read bytes)) (sym same-payload) (frame_of_lem channel bytes are none))
 
-    back : FrameOn channel bytes header payload → (r ≡ Accepted header) × (part ≡ payload)
-    back f = (read_one channel bytes r (Accepted header) says (frame_says f), frame_part f gives)
+    back : FrameOn channel bytes header payload → (r ≡ Ok header) × (part ≡ payload)
+    back f = (read_one channel bytes r (Ok header) says (frame_says f), frame_part f gives)
 
 -- ---- writing
 
@@ -195,33 +195,58 @@ module _ (channel : ℕ) (fields : Fields) (payload before after : List ℕ) (w 
 
 -- the answer is a size: nothing is refused
 none_by : {channel : ℕ} {fields : Fields} {payload before after : List ℕ} {size : ℕ}
-    → WriteSays channel fields payload before after (Written size) → write.refusal channel fields payload before ≡ 0
+    → WriteSays channel fields payload before after (Ok size) → write.refusal channel fields payload before ≡ 0
 none_by says = sym (ap (λ (t : write.Told). t.number) says.answers)
 
 pub write_gives_frame : WriteGivesFrame
 write_gives_frame channel fields payload before after size are says = (
   header_of fields (length payload / 2),
   refl,
-  front-frame channel fields payload before after (Written size) says (none_by says) are,
-  rest_is channel fields payload before after (Written size) says (none_by says),
+  front-frame channel fields payload before after (Ok size) says (none_by says) are,
+  rest_is channel fields payload before after (Ok size) says (none_by says),
 )
 
 pub write_gives_only : WriteGivesOnly
 write_gives_only channel fields payload before after size are says =
-    front-only channel fields payload before after (Written size) says (none_by says) are
+    front-only channel fields payload before after (Ok size) says (none_by says) are
 
 pub write_gives_empty : WriteGivesEmpty
 write_gives_empty channel fields payload before after size says =
-    null_empty channel fields payload before after (Written size) says (none_by says)
+    null_empty channel fields payload before after (Ok size) says (none_by says)
 
 -- ---- both round trips
 
 pub write_then_read : WriteThenRead
 write_then_read channel fields payload before after size are says r part reads gives =
     let header = header_of fields (length payload / 2) in
-    let front = front-frame channel fields payload before after (Written size) says (none_by says) are in
+    let front = front-frame channel fields payload before after (Ok size) says (none_by says) are in
     let both = (read_exactly channel (take size after) r part front.frame.are_bytes reads gives header payload).1 front in
     (header, both.0, refl, both.1)
+
+-- a refusal with its number, and the output as it was
+write_refused : (channel : ℕ) (fields : Fields) (payload output : List ℕ) (refused : WriteRefusal) (n : ℕ)
+    → write.number_of refused ≡ suc n → write.refusal channel fields payload output ≡ suc n
+    → WriteSays channel fields payload output output (Err refused)
+write_refused channel fields payload output refused n t e =
+    record {
+      answers =
+          ap (λ (k : ℕ). record { number = k; length = 0 }) t
+          ∙ ap (λ (k : ℕ). record { number = k; length = if_accepted k (8 + length payload) 0 }) (sym e);
+      writes = ap (λ (k : ℕ). if_accepted k (over (frame_bytes (channel_of channel) fields payload) output) output) (sym e);
+    }
+
+-- no refusal, and the frame over the output's front
+write_accepted : (channel : ℕ) (fields : Fields) (payload output after : List ℕ) (n : ℕ)
+    → write.refusal channel fields payload output ≡ 0 → n ≡ 8 + length payload
+    → after ≡ over (frame_bytes (channel_of channel) fields payload) output
+    → WriteSays channel fields payload output after (Ok n)
+write_accepted channel fields payload output after n e s w =
+    record {
+      answers =
+          ap (λ (k : ℕ). record { number = 0; length = k }) s
+          ∙ ap (λ (k : ℕ). record { number = k; length = if_accepted k (8 + length payload) 0 }) (sym e);
+      writes = w ∙ ap (λ (k : ℕ). if_accepted k (over (frame_bytes (channel_of channel) fields payload) output) output) (sym e);
+    }
 
 -- of a frame's own fields and payload, all that could be refused is the reserved bit, a null frame that is not empty, or the room
 module _ (channel : ℕ) (bytes : List ℕ) (header : Header) (payload before : List ℕ) (f : FrameOn channel bytes header payload) where
@@ -235,12 +260,12 @@ module _ (channel : ℕ) (bytes : List ℕ) (header : Header) (payload before : 
       ∙ first_skip 11 _ (le-ltb highest_cycle header.cycle.0 g.cycle)
       ∙ first_skip 7 _ (with_only header.startup header.sync g.startup)
 
-  pub reserved_refused : header.reserved ≡ true → WriteSays channel (fields_of header) payload before before ReservedSet
+  pub reserved_refused : header.reserved ≡ true → WriteSays channel (fields_of header) payload before before (Err ReservedSet)
   reserved_refused set =
       write_refused channel (fields_of header) payload before ReservedSet 11 refl (to_reserved ∙ first_here 12 _ set)
 
   pub null_refused : header.reserved ≡ false → NullNotEmpty header.null_frame_bit payload
-      → WriteSays channel (fields_of header) payload before before NullFrameNotEmpty
+      → WriteSays channel (fields_of header) payload before before (Err NullFrameNotEmpty)
   null_refused clear full =
       write_refused channel (fields_of header) payload before NullFrameNotEmpty 25 refl
       (to_reserved ∙ first_skip 12 _ clear ∙ first_here 26 _ (by_not_empty header.null_frame_bit payload full))
@@ -249,7 +274,7 @@ module _ (channel : ℕ) (bytes : List ℕ) (header : Header) (payload before : 
   long_again = frame_size f.frame ∙ omega (arith, f.frame.payload_length)
 
   pub written_again : ComesBack header payload bytes before
-      → WriteSays channel (fields_of header) payload before (over bytes before) (Written (length bytes))
+      → WriteSays channel (fields_of header) payload before (over bytes before) (Ok (length bytes))
   written_again back =
       let g = f.frame in
       let empty = by_empty header.null_frame_bit payload back.1 in
@@ -286,21 +311,21 @@ module _ (channel : ℕ) (bytes : List ℕ) (header : Header) (payload before : 
 frame_read : (channel : ℕ) (bytes : List ℕ) (header : Header) (part before after : List ℕ) (w : Writing)
     → ReadAndWritten channel bytes header part before after w → FrameOn channel bytes header part
 frame_read channel bytes header part before after w h =
-    (read_exactly channel bytes (Accepted header) part h.are_bytes h.reads h.gives header part).0 (refl, refl)
+    (read_exactly channel bytes (Ok header) part h.are_bytes h.reads h.gives header part).0 (refl, refl)
 
 pub read_then_write : ReadThenWrite
 read_then_write channel bytes header part before after w h back =
-    write_one channel (fields_of header) part before after (over bytes before) w (Written (length bytes)) h.writes
+    write_one channel (fields_of header) part before after (over bytes before) w (Ok (length bytes)) h.writes
     (written_again channel bytes header part before (frame_read channel bytes header part before after w h) back)
 
 pub reserved_not_written : ReservedNotWritten
 reserved_not_written channel bytes header part before after w h set =
-    write_one channel (fields_of header) part before after before w ReservedSet h.writes
+    write_one channel (fields_of header) part before after before w (Err ReservedSet) h.writes
     (reserved_refused channel bytes header part before (frame_read channel bytes header part before after w h) set)
 
 pub null_not_written : NullNotWritten
 null_not_written channel bytes header part before after w h clear full =
-    write_one channel (fields_of header) part before after before w NullFrameNotEmpty h.writes
+    write_one channel (fields_of header) part before after before w (Err NullFrameNotEmpty) h.writes
     (null_refused channel bytes header part before (frame_read channel bytes header part before after w h) clear full)
 
 pub two_exceptions : TwoExceptions

@@ -13,13 +13,11 @@ use Rattle.writing.specs.Refusals.{some_not_zero, null_frame_not_empty}
 use Rattle.frame_claims.specs.Exact.{EmptyIfNull, NullNotEmpty}
 
 all_zero : (bytes : List ℕ) → some_not_zero bytes ≡ false → (i : ℕ) → get_or bytes i 0 ≡ 0
-unfolding some_not_zero
 all_zero [] e i = refl
 all_zero (byte ∷ bytes) e zero = eqb-true byte 0 (not-false (eqb byte 0) (neither (not (eqb byte 0)) (some_not_zero bytes) e).0)
 all_zero (byte ∷ bytes) e (suc i) = all_zero bytes (neither (not (eqb byte 0)) (some_not_zero bytes) e).1 i
 
 one_not_zero : (bytes : List ℕ) → some_not_zero bytes ≡ true → (i : ℕ) × (get_or bytes i 0 ≡ 0 → ⊥)
-unfolding some_not_zero
 one_not_zero [] e = absurd (false≢true e)
 one_not_zero (byte ∷ bytes) e =
     ⊎_elim (λ h. (0, eqb-false byte 0 (not-true (eqb byte 0) h)))

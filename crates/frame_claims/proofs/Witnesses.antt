@@ -1,6 +1,6 @@
 -- What each witness shows, from the statements of the entries that it calls.
 use Prim.Native.Nat.{ℕ, ◌+◌, ◌/◌, ◌≤◌}
-use mathlib.Core.Path.{◌≡◌, refl, sym, ap, ◌∙◌, subst}
+use mathlib.Core.Path.{◌≡◌, refl, sym, ap, ap₂, ◌∙◌, subst}
 use mathlib.Core.Bool.{Bool, true, false, false≢true, cond}
 use mathlib.Core.List.{List, []}
 use mathlib.Core.Logic.{inl, inr}
@@ -9,6 +9,8 @@ use borrow.Author.Tests.{eqb-true, eqb-false, eq-eqb, ne_eqb}
 use lib.Dec.{eqb}
 use lib.ListN.{length, take, drop}
 use Rattle.numbers.proofs.Walk.{cases, cases_in}
+use Rattle.std.specs.Prelude.{Ok, Err}
+use Rattle.std.specs.Result.{is_ok, result_unwrap_or}
 use Rattle.refusal.specs.Refusal.{first}
 use Rattle.refusal.proofs.FirstLaws.{if_refused}
 use Rattle.division.specs.Bits.{AreBytes}
@@ -18,16 +20,14 @@ use Rattle.base_types.specs.Channel.{channel_of}
 use Rattle.base_types.proofs.ChannelLaws.{named_is, one_channel}
 use Rattle.header.specs.declared.Header.{Header}
 use Rattle.header.specs.declared.Fields.{Fields}
-use Rattle.frame.specs.declared.Reading.{Reading}
-use Rattle.frame.specs.declared.Reading.TheVariants.{Accepted}
-use Rattle.writing.specs.declared.Writing.{Writing}
-use Rattle.writing.specs.declared.Writing.TheVariants.{Written}
 use Rattle.frame.specs.Layout.{Frame}
+use Rattle.frame.specs.declared.ReadRefusal.{ReadRefusal}
+use Rattle.frame.proofs.AnswerLaws.{refusal_in_range}
 use Rattle.frame.specs.Read as read
-use Rattle.frame.specs.Read.{header_read, payload_read, ReadSays, PayloadSays}
+use Rattle.frame.specs.Read.{header_read, payload_read, Reading, ReadSays, PayloadSays}
 use Rattle.writing.specs.Write as write
 use Rattle.lent_bytes.specs.Over.{over}
-use Rattle.writing.specs.Write.{header_of, frame_bytes, WriteSays}
+use Rattle.writing.specs.Write.{header_of, frame_bytes, Writing, WriteSays}
 use Rattle.frame_claims.specs.Damage.{BothAccepted}
 use Rattle.frame_claims.specs.Exact.{FrameOn, fields_of, AcceptsFrames, ReadingOf, PayloadOf, Wrote, ComesBack, WrittenAgain, Rewritten, Sent, Reread, RereadPayload}
 use Rattle.frame_claims.proofs.Answers.{read_one, write_one, read_in_order, refused_unchanged}
@@ -36,12 +36,17 @@ use Rattle.frame_claims.proofs.Damage.{frames_apart, not_on_both}
 
 -- ---- accepted or not
 
+-- a header is what has the number 0
+ok_number : (r : Reading) → is_ok r ≡ eqb (read.told r).number 0
+ok_number (Ok header) = refl
+ok_number (Err refusal) = sym (ne_eqb (read.number_of refusal) 0 (λ e. omega (arith, refusal_in_range refusal)))
+
 pub accepts_frames : (channel : ℕ) (bytes : List ℕ) (r : Reading) → AreBytes bytes → ReadSays channel bytes r
-    → AcceptsFrames channel bytes (eqb (read.told r).number 0)
+    → AcceptsFrames channel bytes (is_ok r)
 accepts_frames channel bytes r are says =
     let number : (read.told r).number ≡ first (read.refusals channel bytes) = ap (λ (t : read.Told). t.number) says in (
-      λ e. (header_read bytes, payload_read bytes, frame_of_lem channel bytes are (sym number ∙ eqb-true (read.told r).number 0 e)),
-      λ f. eq-eqb (read.told r).number 0 (number ∙ frame_none f.2),
+      λ e. (header_read bytes, payload_read bytes, frame_of_lem channel bytes are (sym number ∙ eqb-true (read.told r).number 0 (sym (ok_number r) ∙ e))),
+      λ f. ok_number r ∙ eq-eqb (read.told r).number 0 (number ∙ frame_none f.2),
     )
 
 -- with the part that belongs to these bytes
@@ -63,11 +68,11 @@ never_both bytes r true on_a e on_b =
     (not_on_both bytes a.0 b.0 a.1 b.1 (subst (λ (k : Channel). Frame k bytes a.0 a.1) is_a a.2.frame)
     (subst (λ (k : Channel). Frame k bytes b.0 b.1) is_b b.2.frame))
 
-pub not_both : (channel : ℕ) (x y : List ℕ) (r : Bool) → AcceptsFrames channel x r → r ≡ false → BothAccepted channel x y false
+pub not_both : (channel : ℕ) (x y : List ℕ) (r : Bool) → AcceptsFrames channel x r → r ≡ false → BothAccepted channel x y r
 not_both channel x y r on_x e =
     record {
-      accepted = (λ t. absurd (false≢true t), λ f. absurd (false≢true (sym e ∙ on_x.1 f.0)));
-      apart = λ t. absurd (false≢true t);
+      accepted = (λ t. absurd (false≢true (sym e ∙ t)), λ f. on_x.1 f.0);
+      apart = λ t. absurd (false≢true (sym e ∙ t));
     }
 
 pub both_apart : (channel : ℕ) (x y : List ℕ) (r s : Bool) → AcceptsFrames channel x r → r ≡ true → AcceptsFrames channel y s
@@ -111,60 +116,53 @@ module _ (header : Header) (payload bytes before : List ℕ) {n : ℕ} where
   exactly_zero (inr (inr (inl m))) e = absurd (omega (arith, m.0))
   exactly_zero (inr (inr (inr s))) e = absurd (omega (arith, s.0))
 
-pub not_rewritten : (channel : ℕ) (bytes before : List ℕ) (r : Reading) → ReadSays channel bytes r → ((read.told r).number ≡ 0 → ⊥)
-    → Rewritten channel bytes before before (read.told r).number
-not_rewritten channel bytes before r says refused =
+pub not_rewritten : (channel : ℕ) (bytes before : List ℕ) (refusal : ReadRefusal) → ReadSays channel bytes (Err refusal)
+    → Rewritten channel bytes before before (read.number_of refusal)
+not_rewritten channel bytes before refusal says =
+    let refused : read.number_of refusal ≡ 0 → ⊥ = λ e. omega (arith, refusal_in_range refusal) in
     let frame_refused : (header : Header) (payload : List ℕ) → FrameOn channel bytes header payload → ⊥ =
     λ header payload f. refused (ap (λ (t : read.Told). t.number) says ∙ frame_none f) in
     record {
       exactly = (λ e. absurd (refused e), λ f. absurd (frame_refused f.0 f.1 f.2));
       frame = λ header payload f. absurd (frame_refused header payload f);
-      other = λ none. read_in_order channel bytes r says;
-      output = ap (λ (b : Bool). cond b (over bytes before) before) (sym (ne_eqb (read.told r).number 0 refused));
+      other = λ none. read_in_order channel bytes (Err refusal) says;
+      output = ap (λ (b : Bool). cond b (over bytes before) before) (sym (ne_eqb (read.number_of refusal) 0 refused));
     }
 
-module _ (channel : ℕ) (bytes before after part : List ℕ) (r : Reading) (w : Writing)
-    (are : AreBytes bytes) (reads : ReadSays channel bytes r) (accepted : (read.told r).number ≡ 0) (gives : PayloadSays channel bytes part)
-    (writes : WriteSays channel (fields_of (read.told r).header) part before after w) where
-  here : FrameOn channel bytes (header_read bytes) (payload_read bytes)
-  here = frame_of_lem channel bytes are (sym (ap (λ (t : read.Told). t.number) reads) ∙ accepted)
+module _ (channel : ℕ) (bytes before after part : List ℕ) (got : Header) (w : Writing)
+    (are : AreBytes bytes) (reads : ReadSays channel bytes (Ok got)) (gives : PayloadSays channel bytes part)
+    (writes : WriteSays channel (fields_of got) part before after w) where
+  here : FrameOn channel bytes got part
+  here = (read_exactly channel bytes (Ok got) part are reads gives got part).0 (refl, refl)
 
-  -- the same write, of the header and the payload of a frame that these bytes are
-  same_write : (header : Header) (payload : List ℕ) → FrameOn channel bytes header payload
-      → WriteSays channel (fields_of header) payload before after w
-  same_write header payload f =
-      let e = (read_exactly channel bytes r part are reads gives header payload).1 f in
-      subst (λ (x : List ℕ). WriteSays channel (fields_of header) x before after w) e.1
-      (subst (λ (x : Header). WriteSays channel (fields_of x) part before after w) (ap (λ (x : Reading). (read.told x).header) e.0) writes)
-
+  -- of one string of bytes there is one header and one payload
   again : (header : Header) (payload : List ℕ) → FrameOn channel bytes header payload
       → WrittenAgain header payload bytes before (write.told w).number
   again header payload f =
-      number_again channel bytes header payload before f (ap (λ (t : write.Told). t.number) (same_write header payload f).answers)
+      let e = (read_exactly channel bytes (Ok got) part are reads gives header payload).1 f in
+      let same : got ≡ header = ap (λ (x : Reading). result_unwrap_or x got) e.0 in
+      number_again channel bytes header payload before f
+      (ap (λ (t : write.Told). t.number) writes.answers ∙ ap₂ (λ (h : Header) (p : List ℕ). write.refusal channel (fields_of h) p before) same e.1)
 
-  back : (write.told w).number ≡ 0 → ComesBack (header_read bytes) (payload_read bytes) bytes before
-  back = exactly_zero (header_read bytes) (payload_read bytes) bytes before (again (header_read bytes) (payload_read bytes) here)
+  back : (write.told w).number ≡ 0 → ComesBack got part bytes before
+  back = exactly_zero got part bytes before (again got part here)
 
   -- where nothing was refused, it is what it was
   was_written : (write.told w).number ≡ 0 → after ≡ over bytes before
   was_written e =
-      (write_one channel (fields_of (header_read bytes)) (payload_read bytes) before after (over bytes before) w (Written (length bytes))
-      (same_write (header_read bytes) (payload_read bytes) here)
-      (written_again channel bytes (header_read bytes) (payload_read bytes) before here (back e))).1
+      (write_one channel (fields_of got) part before after (over bytes before) w (Ok (length bytes)) writes
+      (written_again channel bytes got part before here (back e))).1
 
   pub was_rewritten : Rewritten channel bytes before after (write.told w).number
   was_rewritten =
       record {
-        exactly = (
-          λ e. (header_read bytes, payload_read bytes, here, back e),
-          λ f. zero_exactly f.0 f.1 bytes before (again f.0 f.1 f.2) f.3,
-        );
+        exactly = (λ e. (got, part, here, back e), λ f. zero_exactly f.0 f.1 bytes before (again f.0 f.1 f.2) f.3);
         frame = again;
-        other = λ none. absurd (none (header_read bytes, payload_read bytes, here));
+        other = λ none. absurd (none (got, part, here));
         output =
             cases_in (λ b. after ≡ cond b (over bytes before) before) (eqb (write.told w).number 0)
             (λ t. was_written (eqb-true (write.told w).number 0 t))
-            (λ t. refused_unchanged channel (fields_of (read.told r).header) part before after w writes (eqb-false (write.told w).number 0 t));
+            (λ t. refused_unchanged channel (fields_of got) part before after w writes (eqb-false (write.told w).number 0 t));
       }
 
 -- ---- written, then read
@@ -194,13 +192,13 @@ module _ (channel : ℕ) (fields : Fields) (payload before after : List ℕ) (w 
       (λ t. omega (arith, (unchanged (eqb-false (write.refusal channel fields payload before) 0 t)).0))
 
   module _ (are : AreBytes payload) where
-    pub was-sent : Sent channel fields payload before (take (write.told w).length after)
-    was-sent none = (header_of fields (length payload / 2), refl, front-frame channel fields payload before after w says none are)
+    pub was_sent : Sent channel fields payload before (take (write.told w).length after)
+    was_sent none = (header_of fields (length payload / 2), refl, front-frame channel fields payload before after w says none are)
 
     pub wrote : Wrote channel fields payload before after (write.told w).length
     wrote =
         record {
-          frame = was-sent;
+          frame = was_sent;
           only = λ none. front-only channel fields payload before after w says none are;
           empty = null_empty channel fields payload before after w says;
           behind =
@@ -215,7 +213,7 @@ pub was_reread : (channel : ℕ) (fields : Fields) (payload before bytes : List 
     → Sent channel fields payload before bytes → ReadSays channel bytes r → Reread channel fields payload before r
 was_reread channel fields payload before bytes r sent reads none =
     let f = sent none in
-    (f.0, read_one channel bytes r (Accepted f.0) reads (frame_says f.2), f.1)
+    (f.0, read_one channel bytes r (Ok f.0) reads (frame_says f.2), f.1)
 
 pub payload_reread : (channel : ℕ) (fields : Fields) (payload before bytes part : List ℕ)
     → Sent channel fields payload before bytes → PayloadSays channel bytes part → RereadPayload channel fields payload before part

@@ -6,13 +6,11 @@ use Rattle.refusal.specs.Refusal.{InOrder}
 use Rattle.checksum.specs.declared.pair.ChecksumPair.{ChecksumPair}
 use Rattle.checksum.specs.Pair.{no_checksums}
 use Rattle.header.specs.declared.Fields.{Fields}
-use Rattle.frame.specs.declared.Reading.{Reading}
-use Rattle.writing.specs.declared.Writing.{Writing}
 use Rattle.frame.specs.Read as read
 use Rattle.base_types.specs.declared.channel.Channel.{Channel}
-use Rattle.frame.specs.Read.{ReadSays, ReadOnSays, PayloadSays, PayloadLies}
+use Rattle.frame.specs.Read.{Reading, ReadSays, ReadOnSays, PayloadSays, PayloadLies}
 use Rattle.writing.specs.Write as write
-use Rattle.writing.specs.Write.{WriteSays}
+use Rattle.writing.specs.Write.{Writing, WriteSays}
 
 -- ---- any two results that a statement allows are equal
 

@@ -1,27 +1,23 @@
 -- Claims about what is accepted and what is written. The customer's second condition: a byte string is accepted exactly when 01 calls it
 -- a frame, and writing gives exactly the bytes that read back as the same frame.
-use Rattle.std.specs.Prelude.{ℕ, ◌<◌, ◌≤◌, ◌≡◌, Bool, true, false, cond, List, [], ◌⊎◌, ◌↔◌, eqb, length, get_or, take, drop}
+use Rattle.std.specs.Prelude.{ℕ, ◌<◌, ◌≤◌, ◌≡◌, Bool, true, false, cond, List, [], ◌⊎◌, ◌↔◌, eqb, length, get_or, take, drop, Ok, Err}
 use Rattle.refusal.specs.Refusal.{InOrder}
 use Rattle.division.specs.Bits.{AreBytes}
 use Rattle.base_types.specs.declared.channel.Channel.{Channel}
-use Rattle.base_types.specs.declared.channel.Named.TheVariants.{Is}
 use Rattle.base_types.specs.Channel.{named_by}
 use Rattle.header.specs.declared.Header.{Header}
 use Rattle.header.specs.declared.Fields.{Fields}
-use Rattle.frame.specs.declared.Reading.{Reading}
-use Rattle.frame.specs.declared.Reading.TheVariants.{Accepted}
-use Rattle.writing.specs.declared.Writing.{Writing}
-use Rattle.writing.specs.declared.Writing.TheVariants.{Written, ReservedSet, NullFrameNotEmpty}
+use Rattle.writing.specs.declared.WriteRefusal.TheVariants.{ReservedSet, NullFrameNotEmpty}
 use Rattle.frame.specs.Layout.{Frame}
-use Rattle.frame.specs.Read.{ReadSays, PayloadSays}
+use Rattle.frame.specs.Read.{Reading, ReadSays, PayloadSays}
 use Rattle.frame.specs.Read.{refusals as read_refusals}
 use Rattle.lent_bytes.specs.Over.{over}
-use Rattle.writing.specs.Write.{told, refusal, WriteSays}
+use Rattle.writing.specs.Write.{Writing, told, refusal, WriteSays}
 
 -- These bytes are a frame on the channel that this number names, with this header and this payload.
 pub record FrameOn (channel : ℕ) (bytes : List ℕ) (header : Header) (payload : List ℕ) : Type 0 where
   pub on : Channel
-  pub named : named_by channel ≡ Is on
+  pub named : named_by channel ≡ Ok on
   pub frame : Frame on bytes header payload
 
 -- These bytes are a frame there, with some header and some payload.
@@ -47,20 +43,20 @@ ReadExactly =
     (channel : ℕ) (bytes : List ℕ) (r : Reading) (part : List ℕ)
     → AreBytes bytes → ReadSays channel bytes r → PayloadSays channel bytes part
     → (header : Header) (payload : List ℕ)
-    → (r ≡ Accepted header) × (part ≡ payload) ↔ FrameOn channel bytes header payload
+    → (r ≡ Ok header) × (part ≡ payload) ↔ FrameOn channel bytes header payload
 
 -- What an accepted write leaves at the front of the output is a frame with these fields and this payload; behind it all stays.
 abbrev pub WriteGivesFrame : Type 0
 WriteGivesFrame =
     (channel : ℕ) (fields : Fields) (payload before after : List ℕ) (size : ℕ)
-    → AreBytes payload → WriteSays channel fields payload before after (Written size)
+    → AreBytes payload → WriteSays channel fields payload before after (Ok size)
     → (header : Header) × (fields_of header ≡ fields) × FrameOn channel (take size after) header payload × (drop size after ≡ drop size before)
 
 -- And no other bytes are one.
 abbrev pub WriteGivesOnly : Type 0
 WriteGivesOnly =
     (channel : ℕ) (fields : Fields) (payload before after : List ℕ) (size : ℕ)
-    → AreBytes payload → WriteSays channel fields payload before after (Written size)
+    → AreBytes payload → WriteSays channel fields payload before after (Ok size)
     → (bytes : List ℕ) (header : Header) → fields_of header ≡ fields → FrameOn channel bytes header payload
     → bytes ≡ take size after
 
@@ -78,7 +74,7 @@ NullNotEmpty bit payload = (bit ≡ false) × (i : ℕ) × (get_or payload i 0 �
 abbrev pub WriteGivesEmpty : Type 0
 WriteGivesEmpty =
     (channel : ℕ) (fields : Fields) (payload before after : List ℕ) (size : ℕ)
-    → WriteSays channel fields payload before after (Written size)
+    → WriteSays channel fields payload before after (Ok size)
     → EmptyIfNull fields.null_frame_bit payload
 
 -- ---- both round trips
@@ -86,7 +82,7 @@ WriteGivesEmpty =
 -- `read` accepts these bytes with a header, `payload` gives a part of them, and `write` answers w for what was read.
 pub record ReadAndWritten (channel : ℕ) (bytes : List ℕ) (header : Header) (part before after : List ℕ) (w : Writing) : Type 0 where
   pub are_bytes : AreBytes bytes
-  pub reads : ReadSays channel bytes (Accepted header)
+  pub reads : ReadSays channel bytes (Ok header)
   pub gives : PayloadSays channel bytes part
   pub writes : WriteSays channel (fields_of header) part before after w
 
@@ -101,7 +97,7 @@ ReadThenWrite =
     (channel : ℕ) (bytes : List ℕ) (header : Header) (part before after : List ℕ) (w : Writing)
     → ReadAndWritten channel bytes header part before after w
     → ComesBack header part bytes before
-    → (w ≡ Written (length bytes)) × (after ≡ over bytes before)
+    → (w ≡ Ok (length bytes)) × (after ≡ over bytes before)
 
 -- "unless the reserved bit is 1 (refusal 12)".
 abbrev pub ReservedNotWritten : Type 0
@@ -109,7 +105,7 @@ ReservedNotWritten =
     (channel : ℕ) (bytes : List ℕ) (header : Header) (part before after : List ℕ) (w : Writing)
     → ReadAndWritten channel bytes header part before after w
     → header.reserved ≡ true
-    → (w ≡ ReservedSet) × (after ≡ before)
+    → (w ≡ Err ReservedSet) × (after ≡ before)
 
 -- The other exception (02, C-16): a null frame that is not empty (refusal 26).
 abbrev pub NullNotWritten : Type 0
@@ -117,7 +113,7 @@ NullNotWritten =
     (channel : ℕ) (bytes : List ℕ) (header : Header) (part before after : List ℕ) (w : Writing)
     → ReadAndWritten channel bytes header part before after w
     → header.reserved ≡ false → NullNotEmpty header.null_frame_bit part
-    → (w ≡ NullFrameNotEmpty) × (after ≡ before)
+    → (w ≡ Err NullFrameNotEmpty) × (after ≡ before)
 
 -- The number that writing gives for what was read: 0, that of an exception, or 13 for want of room. No two of the four conditions can hold
 -- together, so that each number is given exactly where its own holds; and there is no third exception.
@@ -138,9 +134,9 @@ TwoExceptions =
 abbrev pub WriteThenRead : Type 0
 WriteThenRead =
     (channel : ℕ) (fields : Fields) (payload before after : List ℕ) (size : ℕ)
-    → AreBytes payload → WriteSays channel fields payload before after (Written size)
+    → AreBytes payload → WriteSays channel fields payload before after (Ok size)
     → (r : Reading) (part : List ℕ) → ReadSays channel (take size after) r → PayloadSays channel (take size after) part
-    → (header : Header) × (r ≡ Accepted header) × (fields_of header ≡ fields) × (part ≡ payload)
+    → (header : Header) × (r ≡ Ok header) × (fields_of header ≡ fields) × (part ≡ payload)
 
 -- ---- what the witnesses show
 
@@ -150,7 +146,7 @@ AcceptsFrames channel bytes r = (r ≡ true) ↔ IsFrame channel bytes
 
 -- `reading_of`: it is accepted with a header exactly when the bytes are a frame with that header.
 abbrev pub ReadingOf : ℕ → List ℕ → Reading → Type 0
-ReadingOf channel bytes r = (header : Header) → (r ≡ Accepted header) ↔ (payload : List ℕ) × FrameOn channel bytes header payload
+ReadingOf channel bytes r = (header : Header) → (r ≡ Ok header) ↔ (payload : List ℕ) × FrameOn channel bytes header payload
 
 -- `payload_of`: of a frame its payload, and of any other bytes nothing.
 pub record PayloadOf (channel : ℕ) (bytes part : List ℕ) : Type 0 where
@@ -187,7 +183,7 @@ Sent channel fields payload before bytes =
 -- `reread`: what was written is read as a header with the same fields.
 abbrev pub Reread : ℕ → Fields → List ℕ → List ℕ → Reading → Type 0
 Reread channel fields payload before r =
-    refusal channel fields payload before ≡ 0 → (header : Header) × (r ≡ Accepted header) × (fields_of header ≡ fields)
+    refusal channel fields payload before ≡ 0 → (header : Header) × (r ≡ Ok header) × (fields_of header ≡ fields)
 
 -- `reread_payload`: and its payload is the one that was given.
 abbrev pub RereadPayload : ℕ → Fields → List ℕ → List ℕ → List ℕ → Type 0

@@ -10,7 +10,8 @@ use borrow.Author.Tests.{eq-eqb, ne_eqb}
 use lib.Pow.{shr-shr, high, low, pow_pos}
 use lib.ListN.{length, take, drop, length-append, length-drop, get_or-append}
 use lib.Seq.{take_at, drop_at, get_or_at, take-append-le, drop-append-le}
-use Rattle.division.specs.Bits.{odd, bit, bits, number}
+use Rattle.std.specs.Int.{from_bool as bit}
+use Rattle.division.specs.Bits.{odd, bits, number}
 use Rattle.division.proofs.BitsLaws.{length-bits, number_bits}
 use Rattle.division.proofs.BytesLaws.{number_take-lt, bits_mod, bits_split}
 use Rattle.checksum.specs.Checksums.{header_division, header_bits}
@@ -142,8 +143,7 @@ five_bits a b c d e =
 
 -- four strings behind a first, however they are grouped
 five_strings : (a b c d e : List Bool) → (((a ++ b) ++ c) ++ d) ++ e ≡ a ++ (b ++ (c ++ (d ++ e)))
-five_strings a b c d e =
-    append_assoc ((a ++ b) ++ c) d e ∙ append_assoc (a ++ b) c (d ++ e) ∙ append_assoc a b (c ++ (d ++ e))
+five_strings a b c d e = simp append_assoc
 
 -- a header's fields, one behind the other
 pub packed_bits : (h : Header) (sent : ℕ)

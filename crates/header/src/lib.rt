@@ -5,7 +5,7 @@
 #![tactic(auto)]
 
 ghost use Rattle.std.specs.Prelude.{◌≡◌, ◌<◌, ◌^◌};
-ghost use Rattle.division.specs.Bits.{bits, bit as bits_bit};
+ghost use Rattle.division.specs.Bits.{bits};
 ghost use Rattle.header.specs.Layout.{most_words, most_payload, longest_frame, whole_header, header_checksum_of, header_checksums, header_in, no_header};
 ghost use Rattle.header.specs.Refusals.{startup_without_sync};
 
@@ -28,6 +28,7 @@ pub struct Header {
 }
 
 // The seven fields that are free when a frame is written. The others follow: words from the payload, the checksum from the rest.
+// (They are not a part of `Header`: there 01's nine fields stand in the order in which they are sent.)
 #[derive(Clone, Copy)]
 pub struct Fields {
     pub reserved: bool,
@@ -62,32 +63,16 @@ impl Header {
         cycle: Cycle(0),
     };
 
-    // Each returns a constant, which no contract can name, and so holds it to its rule (DECISIONS 108).
-    fn most_words() -> u8
-        ensures { result ≡ most_words }
-    {
-        Header::MOST_WORDS
-    }
-
-    fn most_payload() -> usize
-        ensures { result ≡ most_payload }
-    {
-        Header::MOST_PAYLOAD
-    }
-
-    fn longest_frame() -> usize
-        ensures { result ≡ longest_frame }
-    {
-        Header::LONGEST_FRAME
-    }
-
-    fn none() -> Header
-        ensures { result ≡ no_header }
-    {
-        Header::NONE
-    }
+    // The constants are their rules' (DECISIONS 108).
+    fn constants()
+        ensures most_words { Header.MOST_WORDS ≡ most_words }
+        ensures most_payload { Header.MOST_PAYLOAD ≡ most_payload }
+        ensures longest_frame { Header.LONGEST_FRAME ≡ longest_frame }
+        ensures none { Header.NONE ≡ no_header }
+    {}
 
     // The header checksum that belongs to the other fields, whatever stands in its own.
+    #[tactic(auto, using(crate::proofs::HeaderLaws::checksum_whole))]
     pub fn checksum_due(self) -> u16
         ensures { result ≡ header_checksum_of self }
     {
@@ -99,13 +84,11 @@ impl Header {
 pub fn startup_without_sync(startup: bool, sync: bool) -> bool
     ensures { result ≡ startup_without_sync startup sync }
 {
-    if !startup {
-        return false;
-    }
-    !sync
+    startup && !sync
 }
 
 // The fields in the 40 bits of a header, which are those of a number.
+#[tactic(auto, using(crate::proofs::HeaderLaws::unpacked_header))]
 pub fn unpacked(number: u64) -> Header
     ensures { result ≡ header_in (bits 40 number) }
 {
@@ -122,22 +105,15 @@ pub fn unpacked(number: u64) -> Header
     }
 }
 
-// A bit as a number.
-fn bit(set: bool) -> u64
-    ensures { (result ≡ bits_bit set) × (result < 2) }
-{
-    if set { 1 } else { 0 }
-}
-
 // The header's 40 bits, as those of a number that has no more.
 pub fn packed(header: Header) -> u64
     ensures result_value { bits 40 result ≡ whole_header header }
     ensures upper_bound { result < 2 ^ 40 }
 {
-    let sent = bit(header.reserved) * 2 + bit(header.preamble);
-    let sent = sent * 2 + bit(header.null_frame_bit);
-    let sent = sent * 2 + bit(header.sync);
-    let sent = sent * 2 + bit(header.startup);
+    let sent = u64::from(header.reserved) * 2 + u64::from(header.preamble);
+    let sent = sent * 2 + u64::from(header.null_frame_bit);
+    let sent = sent * 2 + u64::from(header.sync);
+    let sent = sent * 2 + u64::from(header.startup);
     let sent = sent * 2048 + header.id.0 as u64 % 2048;
     let sent = sent * 128 + header.words as u64 % 128;
     let sent = sent * 2048 + header.checksum as u64 % 2048;
@@ -146,6 +122,7 @@ pub fn packed(header: Header) -> u64
 
 // The header checksum of a header that is given by its 40 bits: over the 20 from sync to payload length, and not over its own
 // 11 bits or the cycle's 6.
+#[tactic(auto, using(crate::proofs::HeaderLaws::covered_bits), unfolding(crate::specs::Layout::header_in))]
 pub fn checksum_of(number: u64) -> u16
     ensures { result ≡ header_checksum_of (header_in (bits 40 number)) }
 {

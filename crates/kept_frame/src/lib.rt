@@ -4,9 +4,10 @@
 
 ghost use Rattle.kept_frame.specs.Measured.{MeasuredLater};
 
-use base_types::Microtick;
+use base_types::{Microtick, SignedMicrotick};
 use clock::Clock;
-use measuring::FrameMeasured;
+use measuring::MeasureRefusal;
+use refusal::Answered;
 use slot::Status;
 
 // Measures a status after one more arrival. Where a frame was kept before, that is the same as measuring the status that was handed in.
@@ -16,9 +17,9 @@ pub fn measured_later(
     bytes: &[u8],
     observed: Microtick,
     action_point: Microtick,
-) -> FrameMeasured
+) -> Answered<SignedMicrotick, MeasureRefusal, Clock>
     ensures { MeasuredLater state status bytes.now observed action_point result }
 {
     let judged = slot_events::arrived(status, bytes);
-    measuring::measure(state, judged.status, observed, action_point)
+    measuring::measure(state, judged.state, observed, action_point)
 }

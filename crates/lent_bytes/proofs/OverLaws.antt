@@ -1,33 +1,12 @@
 -- Bytes laid over the first of others.
-use Prim.Native.Nat.{ℕ, suc, ◌+◌, ◌-◌, ◌<◌, ◌≤◌}
+use Prim.Native.Nat.{ℕ, ◌-◌, ◌≤◌}
 use mathlib.Core.Path.{◌≡◌, sym, ap, ap₂, ◌∙◌}
-use mathlib.Core.List.{List, [], ◌∷◌, ◌++◌, append_assoc, append-nil}
+use mathlib.Core.List.{List, [], ◌++◌, append_assoc, append-nil}
 use native.Mathlib.Omega.{arith}
-use lib.ListN.{length, take, drop, set, length-append, length-drop, take-append-drop, drop_of_length-le}
-use lib.Seq.{append_snoc, take-suc-set, drop-set-lt, drop-drop, take_at, drop_at, take_all}
+use lib.ListN.{length, take, drop, length-append, length-drop, drop_of_length-le}
+use lib.Seq.{drop-drop, take_at, drop_at, take_all}
 use borrow.Rule.Slice.PartMut.{post_of, put_mid}
 use Rattle.lent_bytes.specs.Over.{over}
-
--- one byte of them is laid
-pub over_turn : (byte : ℕ) (rest out : List ℕ) (i : ℕ) → i < length out
-    → take (suc i) (set out i byte) ++ over rest (drop (suc i) (set out i byte)) ≡ take i out ++ over (byte ∷ rest) (drop i out)
-unfolding over
-over_turn byte rest out i h =
-    let e : suc i + length rest ≡ i + suc (length rest) = omega arith in
-    ap₂ (λ (x y : List ℕ). x ++ (rest ++ drop (length rest) y)) (take-suc-set out i byte h) (drop-set-lt (suc i) out i byte (omega arith))
-    ∙ append_snoc (take i out) byte (rest ++ drop (length rest) (drop (suc i) out))
-    ∙ ap (λ (x : List ℕ). take i out ++ (byte ∷ (rest ++ x)))
-    (drop-drop (length rest) (suc i) out ∙ ap (λ (k : ℕ). drop k out) e ∙ sym (drop-drop (suc (length rest)) i out))
-
--- none is left to be laid
-pub over_end : (out : List ℕ) (i : ℕ) → take i out ++ over [] (drop i out) ≡ out
-unfolding over
-over_end out i = take-append-drop i out
-
--- what a copy leaves
-pub over_copied : (bytes out : List ℕ) → take (length bytes) bytes ++ drop (length bytes) out ≡ over bytes out
-unfolding over
-over_copied bytes out = ap (λ (x : List ℕ). x ++ drop (length bytes) out) (take_all (length bytes) bytes (omega arith))
 
 -- what lies over, and what lies behind it
 pub take-over : (bytes out : List ℕ) (n : ℕ) → length bytes ≡ n → take n (over bytes out) ≡ bytes

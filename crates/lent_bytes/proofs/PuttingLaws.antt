@@ -1,27 +1,17 @@
 -- Bytes put behind others.
-use Prim.Native.Nat.{ℕ, ◌+◌, ◌<◌, ◌≤◌}
+use Prim.Native.Nat.{ℕ, ◌+◌, ◌≤◌}
 use mathlib.Core.Path.{◌≡◌, sym, ap₂, ◌∙◌}
 use mathlib.Core.List.{List, ◌++◌}
-use borrow.Author.Tests.{le-leb, lt-leb}
+use borrow.Author.Tests.{le-leb}
 use borrow.Rule.Slice.PartMut.{put_mid}
 use lib.ListN.{length, take, drop}
 use Rattle.lent_bytes.specs.Over.{over}
-use Rattle.lent_bytes.specs.Putting.{put_end, put_at}
+use Rattle.lent_bytes.specs.Putting.{put_at}
 
 module _ (at : ℕ) (bytes output : List ℕ) where
   -- where there is room
-  pub end_put : at + length bytes ≤ length output → put_end at bytes output ≡ at + length bytes
-  end_put room = rw (le-leb (at + length bytes) (length output) room)
-
-  pub at_put : at + length bytes ≤ length output → put_at at bytes output ≡ take at output ++ over bytes (drop at output)
+  at_put : at + length bytes ≤ length output → put_at at bytes output ≡ take at output ++ over bytes (drop at output)
   at_put room = rw (le-leb (at + length bytes) (length output) room)
-
-  -- where there is none
-  pub end_not_put : length output < at + length bytes → put_end at bytes output ≡ at
-  end_not_put none = rw (lt-leb (at + length bytes) (length output) none)
-
-  pub not_put : length output < at + length bytes → put_at at bytes output ≡ output
-  not_put none = rw (lt-leb (at + length bytes) (length output) none)
 
   -- as many bytes of the output were lent as there are, and came back as they are
   pub copied_at : (n : ℕ) (part : List ℕ) → n ≡ length bytes → at + length bytes ≤ length output → part ≡ bytes

@@ -1,10 +1,13 @@
--- Rows that are each as asked, and rows of which one is not.
+-- Rows that are each as asked.
 use Prim.Native.Nat.{ℕ, zero, suc}
 use mathlib.Core.Path.{◌≡◌, refl, ap, ◌∙◌}
-use mathlib.Core.Bool.{Bool, true, false, ◌&&◌, and-false}
+use mathlib.Core.Bool.{Bool, true}
 use mathlib.Core.List.Memᴰ
 use mathlib.Core.List.{List, [], ◌∷◌, ◌++◌, Memᴰ}
 use lib.ListN.{get_or, set}
+use Rattle.std.proofs.lemmas.List.Elements.{All-set}
+use Rattle.std.proofs.lemmas.List.Folds.{list_all-append}
+use Rattle.std.proofs.lemmas.List.Sums.{AllPass-from_list_all, list_all-from_AllPass}
 use Rattle.numbers.proofs.Truth.{both_true, true_both}
 use Rattle.numbers.proofs.Walk.{came}
 use Rattle.base_types.specs.declared.id.Slot.{Slot}
@@ -17,24 +20,12 @@ module _ (asked : Row → Bool) where
   -- a row put after the others, or in the place of one
   pub each_end : (rows : List Row) (row : Row) → each_row asked rows ≡ true → asked row ≡ true → each_row asked (rows ++ (row ∷ [])) ≡ true
   unfolding each_row
-  each_end [] row s e = true_both (asked row) true e refl
-  each_end (first ∷ rows) row s e =
-      let h = both_true (asked first) (each_row asked rows) s in
-      true_both (asked first) (each_row asked (rows ++ (row ∷ []))) h.0 (each_end rows row h.1 e)
+  each_end rows row s e = rw (list_all-append asked rows (row ∷ []), s, e)
 
   pub each_set : (rows : List Row) (p : ℕ) (row : Row) → each_row asked rows ≡ true → asked row ≡ true → each_row asked (set rows p row) ≡ true
   unfolding each_row
-  each_set [] p row s e = refl
-  each_set (first ∷ rows) zero row s e = true_both (asked row) (each_row asked rows) e (both_true (asked first) (each_row asked rows) s).1
-  each_set (first ∷ rows) (suc p) row s e =
-      let h = both_true (asked first) (each_row asked rows) s in
-      true_both (asked first) (each_row asked (set rows p row)) h.0 (each_set rows p row h.1 e)
-
-  -- one that is not
-  pub not_each : (rows : List Row) (row : Row) (later : List Row) → asked row ≡ false → each_row asked (rows ++ (row ∷ later)) ≡ false
-  unfolding each_row
-  not_each [] row later e = rw e
-  not_each (first ∷ rows) row later e = ap (◌&&◌ (asked first)) (not_each rows row later e) ∙ and-false (asked first)
+  each_set rows p row s e =
+      list_all-from_AllPass asked (set rows p row) (All-set (λ r. asked r ≡ true) rows p row e (AllPass-from_list_all asked rows s))
 
   -- each row that is among them, and back
   pub each_member : (rows : List Row) (row : Row) → each_row asked rows ≡ true → Memᴰ row rows → asked row ≡ true

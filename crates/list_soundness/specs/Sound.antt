@@ -1,20 +1,19 @@
 -- Which lists are sound (01, "Refusal numbers": "each list holds at most field 4 different IDs, each 1 to 2047 and once per channel,
 -- with deviations in their range"; 02, C-17: "all listed measurements carry the mark of the loaded settings").
-use Rattle.std.specs.Prelude.{ℕ, Bool, true, not, ◌&&◌, ◌||◌, List, [], ◌∷◌, eqb, leb}
+use Rattle.std.specs.Prelude.{ℕ, Bool, true, not, ◌&&◌, ◌||◌, List, eqb, leb, None, Some}
+use Rattle.std.specs.List.{list_all}
 use Rattle.base_types.specs.Slot.{not_an_id}
 use Rattle.base_types.specs.Microtick.{is_deviation}
 use Rattle.settings.specs.declared.Mark.{Mark}
-use Rattle.sync_list.specs.declared.row.Measured.{Measured}
-use Rattle.sync_list.specs.declared.row.Measured.TheVariants.{Nothing, Is}
 use Rattle.sync_list.specs.declared.row.Row.{Row}
 use Rattle.sync_list.specs.declared.list.SyncList.{SyncList}
-use Rattle.sync_list.specs.Rows.{is_measured}
+use Rattle.sync_list.specs.Rows.{Measured, is_measured}
 use Rattle.sync_list.specs.Lists.{listed, id_of, ids_of, none_twice}
 
 -- "with deviations in their range". Where nothing was measured, nothing is asked.
 abbrev pub is_in_range : Measured → Bool
-is_in_range Nothing = true
-is_in_range (Is m) = is_deviation m.deviation.0
+is_in_range None = true
+is_in_range (Some m) = is_deviation m.deviation.0
 
 -- An ID of a frame, at least one measurement (a row is there for one), and deviations in their range.
 abbrev pub row_sound : Row → Bool
@@ -24,16 +23,15 @@ row_sound row =
 
 -- Each of the rows is as asked.
 unfoldable pub each_row : (Row → Bool) → List Row → Bool
-each_row asked [] = true
-each_row asked (row ∷ rows) = asked row && each_row asked rows
+each_row asked rows = list_all asked rows
 
 abbrev pub rows_sound : List Row → Bool
 rows_sound rows = each_row row_sound rows
 
 -- C-17: the measurement carries the mark. Where nothing was measured, nothing is asked.
 abbrev pub carries : Mark → Measured → Bool
-carries mark Nothing = true
-carries mark (Is m) = eqb m.mark.0 mark.0
+carries mark None = true
+carries mark (Some m) = eqb m.mark.0 mark.0
 
 -- On either channel.
 abbrev pub row_marked : Mark → Row → Bool

@@ -11,19 +11,16 @@ use mir.Val.{SFits}
 use Rattle.numbers.proofs.Signed.{up, dn, le_sums, sub_sums, one_sided, sfits_by}
 use Rattle.numbers.proofs.Truth.{both_true}
 use Rattle.midpoint.proofs.RangeLaws.{Near, Within, none, more, half_within}
-use Rattle.correction.specs.declared.value.Value.{Value}
-use Rattle.correction.specs.declared.value.Value.TheVariants as value
 use Rattle.base_types.specs.Microtick.{lowest_deviation, highest_deviation, is_deviation, held, whole}
-use Rattle.correction.specs.Values.{difference_by, joined, rate_value, rate_value_by}
+use Rattle.correction.specs.Values.{Value, difference_by, joined, rate_value, rate_value_by}
 use Rattle.base_types.proofs.HeldLaws.{held_fits}
-use Rattle.sync_list.specs.declared.row.Measured.{Measured}
-use Rattle.sync_list.specs.declared.row.Measured.TheVariants.{Nothing, Is}
 use Rattle.sync_list.specs.declared.row.Row.{Row}
-use Rattle.sync_list.specs.Rows.{value_of, deviations_of}
+use Rattle.sync_list.specs.Rows.{Measured, value_of, deviations_of}
 use Rattle.sync_list.specs.Lists.{row_in}
 use Rattle.list_soundness.specs.Sound.{is_in_range, row_sound, each_row, rows_sound}
 use Rattle.list_soundness.proofs.RangedLaws.{Ranged, row_ranged, in_ranged}
 use Rattle.list_values.specs.Values.{before, present, rate_values, rate_values_by}
+use Rattle.std.specs.Prelude.{None, Some}
 
 -- ---- two deviations
 
@@ -50,22 +47,22 @@ apart x y ex ey =
 
 -- a value, where there is one, is near
 abbrev NearValue : Value → Type 0
-NearValue value.Absent = Unit {0}
-NearValue (value.Is x) = Near spread x.0
+NearValue None = Unit {0}
+NearValue (Some x) = Near spread x.0
 
 held_difference : (odd even : Measured) → is_in_range odd ≡ true → is_in_range even ≡ true
     → (difference_by held (value_of odd) (value_of even) ≡ difference_by whole (value_of odd) (value_of even)) × NearValue (difference_by whole (value_of odd) (value_of even))
-held_difference Nothing even o e = (refl, tt)
-held_difference (Is x) Nothing o e = (refl, tt)
-held_difference (Is x) (Is y) o e =
+held_difference None even o e = (refl, tt)
+held_difference (Some x) None o e = (refl, tt)
+held_difference (Some x) (Some y) o e =
     let n = apart x.deviation.0 y.deviation.0 o e in
     let f : SFits w32 (x.deviation.0 -ℤ y.deviation.0) = sfits_by (omega (arith, n.0)) (omega (arith, n.1)) in
-    (ap (λ (z : ℤ). value.Is (record { 0 = z })) (held_fits (x.deviation.0 -ℤ y.deviation.0) f), n)
+    (ap (λ (z : ℤ). Some (record { 0 = z })) (held_fits (x.deviation.0 -ℤ y.deviation.0) f), n)
 
 near_joined : (a b : Value) → NearValue a → NearValue b → NearValue (joined a b)
-near_joined value.Absent b na nb = nb
-near_joined (value.Is x) value.Absent na nb = na
-near_joined (value.Is x) (value.Is y) na nb = half_within spread x.0 y.0 na nb
+near_joined None b na nb = nb
+near_joined (Some x) None na nb = na
+near_joined (Some x) (Some y) na nb = half_within spread x.0 y.0 na nb
 
 module _ (odd even : Row) (o : Ranged odd) (e : Ranged even) where
   held_value : rate_value_by held (deviations_of odd) (deviations_of even) ≡ rate_value (deviations_of odd) (deviations_of even)
@@ -93,8 +90,8 @@ module _ (even : List Row) (e : rows_sound even ≡ true) where
       λ i. before (same i) (rest i)
 
   near_before : (v : Value) (numbers : List ℤ) → NearValue v → Within spread numbers → Within spread (before v numbers)
-  near_before value.Absent numbers n w = w
-  near_before (value.Is x) numbers n w = more n w
+  near_before None numbers n w = w
+  near_before (Some x) numbers n w = more n w
 
   pub rates_near : (odd : List Row) → rows_sound odd ≡ true → Within spread (rate_values odd even)
   unfolding each_row present

@@ -1,98 +1,94 @@
--- Values gathered in an array, row after row: one walk for the values of either term.
+-- Values in their array, and what one more value makes of them.
 use Prim.Native.Nat.{ℕ, suc, ◌+◌, ◌-◌, ◌<◌, ◌≤◌}
 use mathlib.Core.Path.{◌≡◌, refl, sym, ap, ◌∙◌}
-use mathlib.Core.List.{List, [], ◌++◌, map, append_assoc, append-nil}
+use mathlib.Core.List.{List, [], ◌∷◌, ◌++◌, map, append_assoc}
+use native.Mathlib.Numerals.{add-one}
 use native.Mathlib.Omega.{arith}
 use borrow.Author.Tests.{le-leb}
 use lib.IntN.{ℤ, pos}
-use lib.ListN.{length, get_or, take, drop, set, replicate, take-append-drop, drop_of_length-le}
-use lib.Seq.{length-take-le, drop-drop, drop-set-lt}
+use lib.ListN.{length, length-append, length-take, get_or, take, set, replicate}
+use lib.Seq.{set-append_seam, take-append_seam, take-suc, take_all}
+use Rattle.std.specs.Prelude.{None, Some}
 use Rattle.midpoint.specs.Midpoint.{most_values}
-use Rattle.correction.specs.declared.value.Value.{Value}
-use Rattle.correction.specs.declared.value.Value.TheVariants.{Absent, Is}
+use Rattle.correction.specs.Values.{Value}
 use Rattle.correction.specs.Terms.{most_ids, values_in}
+use Rattle.correction.specs.declared.term.Values.{Values}
 use Rattle.sync_list.specs.declared.row.Row.{Row}
-use Rattle.sync_list.specs.declared.list.SyncList.{SyncList}
-use Rattle.sync_list.specs.Lists.{listed}
-use Rattle.sync_list.proofs.ListLaws.{Walk, walk_next, walk_there, walk_over, no_row, row_next}
-use Rattle.list_values.specs.Values.{before, present, in_array, ZerosBehind}
+use Rattle.list_values.specs.Values.{before, present, in_array}
 
-before_first : (value : Value) (numbers : List ℤ) → before value [] ++ numbers ≡ before value numbers
-before_first Absent numbers = refl
-before_first (Is x) numbers = refl
+-- ---- values in their array
 
--- ---- what stands behind the values
+pub array_values : (numbers : List ℤ) → length numbers ≤ most_ids → values_in (in_array numbers) ≡ numbers
+array_values numbers few = rw (le-leb (length numbers) most_ids few) (take-append_seam numbers (replicate (most_values - length numbers) (pos 0)))
 
 -- one of the zeros makes room for a number
-pub zeros_next : (count : ℕ) (numbers : List ℤ) (x : ℤ) → count < most_values → ZerosBehind count numbers → ZerosBehind (suc count) (set numbers count x)
-zeros_next count numbers x room zeros =
-    let one : most_values - count ≡ suc (most_values - suc count) = omega arith in
-    let there : count + 1 ≡ suc count = omega arith in
-    drop-set-lt (suc count) numbers count x (omega arith)
-    ∙ ap (λ (n : ℕ). drop n numbers) (sym there)
-    ∙ sym (drop-drop 1 count numbers)
-    ∙ ap (drop 1) zeros
-    ∙ ap (λ (n : ℕ). drop 1 (replicate n (pos 0))) one
+pub array_more : (numbers : List ℤ) (x : ℤ) → length numbers ≤ most_ids
+    → record { numbers = set (in_array numbers).numbers (length numbers) x; count = length numbers + 1 } ≡ in_array (numbers ++ (x ∷ []))
+array_more numbers x few =
+    let zeros : ℕ = most_values - (length numbers + 1) in
+    let one : most_values - length numbers ≡ suc zeros = omega arith in
+    let counted : length (numbers ++ (x ∷ [])) ≡ length numbers + 1 = length-append numbers (x ∷ []) in
+    rw (one, counted, set-append_seam numbers (pos 0) (replicate zeros (pos 0)) x, append_assoc numbers (x ∷ []) (replicate zeros (pos 0)))
 
--- values with zeros behind them are those values in their array
-pub in_array_lem : (count : ℕ) (numbers values : List ℤ) → length numbers ≡ most_values → count ≤ most_values → ZerosBehind count numbers → take count numbers ≡ values
-    → record { numbers = numbers; count = count } ≡ in_array values
-in_array_lem count numbers values long few zeros taken =
-    let counted : count ≡ length values = sym (length-take-le count numbers (omega arith)) ∙ ap length taken in
-    let laid : numbers ≡ values ++ replicate (most_values - count) (pos 0) =
-    sym (take-append-drop count numbers) ∙ ap (λ (l : List ℤ). l ++ drop count numbers) taken ∙ ap (λ (l : List ℤ). values ++ l) zeros in
-    let filled : numbers ≡ values ++ replicate (most_values - length values) (pos 0) =
-    laid ∙ ap (λ (n : ℕ). values ++ replicate (most_values - n) (pos 0)) counted in
-    ap (λ (l : List ℤ). record { numbers = l; count = count }) filled
-    ∙ ap (λ (n : ℕ). record { numbers = values ++ replicate (most_values - length values) (pos 0); count = n }) counted
+-- so it is where those before it are known
+pub laid : (values : Values) (x : ℤ) → values.count ≤ most_ids → values ≡ in_array (values_in values)
+    → record { numbers = set values.numbers values.count x; count = values.count + 1 } ≡ in_array (values_in values ++ (x ∷ []))
+laid values x room filled =
+    let count : values.count ≡ length (values_in values) = ap (λ (v : Values). v.count) filled in
+    ap (λ (v : Values). record { numbers = set v.numbers v.count x; count = v.count + 1 }) filled ∙ array_more (values_in values) x (omega arith)
+
+-- ---- the values of rows
+
+module _ (value : Row → Value) where
+  abbrev pub values_of : List Row → List ℤ
+  values_of rows = present (map value rows)
+
+  before_first : (v : Value) (numbers : List ℤ) → before v [] ++ numbers ≡ before v numbers
+  before_first None numbers = refl
+  before_first (Some x) numbers = refl
+
+  before_most : (v : Value) (numbers : List ℤ) → length (before v numbers) ≤ suc (length numbers)
+  before_most None numbers = omega arith
+  before_most (Some x) numbers = omega arith
+
+  -- at most one for each row
+  pub values_few : (rows : List Row) → length (values_of rows) ≤ length rows
+  unfolding present
+  values_few [] = omega arith
+  values_few (row ∷ rows) = omega (arith, before_most (value row) (values_of rows), values_few rows)
+
+  -- one row more
+  pub values_more : (rows : List Row) (row : Row) → values_of (rows ++ (row ∷ [])) ≡ values_of rows ++ before (value row) []
+  unfolding present
+  values_more [] row = refl
+  values_more (first ∷ rows) row =
+      ap (before (value first)) (values_more rows row)
+      ∙ sym (before_first (value first) (values_of rows ++ before (value row) []))
+      ∙ sym (append_assoc (before (value first) []) (values_of rows) (before (value row) []))
+      ∙ ap (λ (l : List ℤ). l ++ before (value row) []) (before_first (value first) (values_of rows))
 
 -- ---- the walk over the rows of a list, each of which adds a value
 
--- what is laid, with what the rows to come will add, is what all rows add; zeros stand behind it
-pub record Gathered (value : Row → Value) (l : SyncList) (n i : ℕ) (numbers : List ℤ) (count : ℕ) : Type 0 where
-  pub walk : Walk l n i
-  pub few : count ≤ i
-  pub long : length numbers ≡ most_values
-  pub zeros : ZerosBehind count numbers
-  pub laid : take count numbers ++ present (map value (drop i (listed l))) ≡ present (map value (listed l))
+module _ (value : Row → Value) (rows : List Row) (few : length rows ≤ most_ids) (i : ℕ) (values : Values) (so_far : values ≡ in_array (values_of value (take i rows))) where
+  passed_few : length (values_of value (take i rows)) ≤ i
+  passed_few = omega (arith, values_few value (take i rows), length-take i rows)
 
-pub gathered_none : (value : Row → Value) (l : SyncList) (n : ℕ) → Walk l n 0 → Gathered value l n 0 (replicate most_values (pos 0)) 0
-gathered_none value l n w = record { walk = w; few = omega arith; long = refl; zeros = refl; laid = refl }
+  same : i ≤ length rows → values_in values ≡ values_of value (take i rows)
+  same within = ap values_in so_far ∙ array_values (values_of value (take i rows)) (omega (arith, passed_few))
 
-module _ {value : Row → Value} {l : SyncList} {n i : ℕ} {numbers : List ℤ} {count : ℕ} (g : Gathered value l n i numbers count) where
   -- there is room for one more
-  pub gathered_room : i < n → (count < most_values) × (length numbers ≡ most_values) × ZerosBehind count numbers
-  gathered_room t = (omega (arith, t, g.few, g.walk.few), g.long, g.zeros)
+  pub has_room : i < length rows → values.count ≤ most_ids
+  has_room more = rw so_far (omega (arith, passed_few))
 
-  -- a row is passed: its value was laid behind the numbers
-  pub gathered_next : i < n → (v : Value) → v ≡ value (get_or l.rows i no_row) → (next : List ℤ) (m : ℕ) → take m next ≡ take count numbers ++ before v []
-      → (m ≤ suc count) × (length next ≡ most_values) × ZerosBehind m next → Gathered value l n (suc i) next m
-  unfolding present
-  gathered_next t v e next m laid kept =
-      let passed = take count numbers in
-      let still = present (map value (drop (suc i) (listed l))) in
-      let all : passed ++ before (value (get_or l.rows i no_row)) still ≡ present (map value (listed l)) =
-      rw (row_next l i (walk_there g.walk t)) at g.laid in
-      record {
-        walk = walk_next g.walk t;
-        few = omega (arith, g.few, kept.0);
-        long = kept.1;
-        zeros = kept.2;
-        laid =
-            ap (λ (x : List ℤ). x ++ still) laid
-            ∙ append_assoc passed (before v []) still
-            ∙ ap (λ (x : List ℤ). passed ++ x) (before_first v still)
-            ∙ ap (λ (w : Value). passed ++ before w still) e
-            ∙ all;
-      }
+  pub is_filled : i < length rows → values ≡ in_array (values_in values)
+  is_filled more = so_far ∙ ap in_array (sym (same (omega arith)))
+
+  -- a row is passed: its value was laid behind the others
+  pub row_passed : (d : Row) → i < length rows → (next : Values) (v : Value) → v ≡ value (get_or rows i d)
+      → next ≡ in_array (values_in values ++ before v []) → next ≡ in_array (values_of value (take (i + 1) rows))
+  row_passed d more next v e laid =
+      laid ∙ ap in_array (rw (same (omega arith), e, add-one, take-suc rows i d more, values_more value (take i rows) (get_or rows i d)))
 
   -- no row is left
-  pub gathered_all : n ≤ i
-      → (record { numbers = numbers; count = count } ≡ in_array (present (map value (listed l)))) × (values_in (record { numbers = numbers; count = count }) ≡ present (map value (listed l)))
-  unfolding present
-  gathered_all over =
-      let w = g.walk in
-      let all : take count numbers ≡ present (map value (listed l)) =
-      sym (append-nil (take count numbers)) ∙ rw (drop_of_length-le (listed l) {i = i} (walk_over w over)) at g.laid in
-      let counted : count ≤ most_ids = omega (arith, g.few, w.few, w.within) in
-      (in_array_lem count numbers (present (map value (listed l))) g.long (omega arith) g.zeros all, rw (le-leb count most_ids counted) all)
+  pub all_passed : i ≤ length rows → length rows ≤ i → values_in values ≡ values_of value rows
+  all_passed within over = same within ∙ ap (values_of value) (take_all i rows over)

@@ -1,19 +1,17 @@
 -- The values that the IDs of a list add to a midpoint (01, "Clock").
-use Rattle.std.specs.Prelude.{ℕ, ◌-◌, ◌≡◌, List, [], ◌∷◌, ◌++◌, map, ℤ, pos, length, drop, replicate}
+use Rattle.std.specs.Prelude.{◌-◌, List, [], ◌∷◌, ◌++◌, map, ℤ, pos, length, replicate, None, Some}
 use Rattle.midpoint.specs.Midpoint.{most_values}
 use Rattle.correction.specs.declared.term.Values.{Values}
-use Rattle.correction.specs.declared.value.Value.{Value}
-use Rattle.correction.specs.declared.value.Value.TheVariants.{Absent, Is}
 use Rattle.base_types.specs.Microtick.{whole}
-use Rattle.correction.specs.Values.{offset_value, rate_value_by}
+use Rattle.correction.specs.Values.{Value, offset_value, rate_value_by}
 use Rattle.sync_list.specs.declared.row.Row.{Row}
 use Rattle.sync_list.specs.Rows.{deviations_of}
 use Rattle.sync_list.specs.Lists.{row_in}
 
 -- A value before others, where it is one.
 abbrev pub before : Value → List ℤ → List ℤ
-before Absent numbers = numbers
-before (Is x) numbers = x.0 ∷ numbers
+before None numbers = numbers
+before (Some x) numbers = x.0 ∷ numbers
 
 -- The numbers of those values that are there.
 unfoldable pub present : List Value → List ℤ
@@ -34,7 +32,3 @@ rate_values = rate_values_by whole
 -- Numbers in the array that a midpoint is taken of: as many zeros behind them as there is room for.
 abbrev pub in_array : List ℤ → Values
 in_array numbers = record { numbers = numbers ++ replicate (most_values - length numbers) (pos 0); count = length numbers }
-
--- Behind the first numbers of that array nothing has been laid yet.
-abbrev pub ZerosBehind : ℕ → List ℤ → Type 0
-ZerosBehind count numbers = drop count numbers ≡ replicate (most_values - count) (pos 0)

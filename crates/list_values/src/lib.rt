@@ -3,18 +3,21 @@
 // For closing: `offset_values` and `rate_values`. Each takes any list, also one whose count is above its rows.
 #![tactic(auto)]
 
-ghost use Rattle.std.specs.Prelude.{◌≡◌, [], ◌++◌, suc, ◌≤◌, ◌<◌, length, take};
-ghost use Rattle.midpoint.specs.Midpoint.{most_values};
+ghost use Rattle.std.specs.Prelude.{◌≡◌, [], ◌++◌, ◌≤◌};
 ghost use Rattle.base_types.specs.Microtick.{held};
-ghost use Rattle.correction.specs.Terms.{values_in};
+ghost use Rattle.correction.specs.Terms.{most_ids, values_in};
 ghost use Rattle.sync_list.specs.Lists.{listed};
-ghost use Rattle.list_values.specs.Values.{before, offset_values, rate_values_by, in_array, ZerosBehind};
+ghost use Rattle.list_values.specs.Values.{before, offset_values, rate_values_by, in_array};
 
-use correction::{Value, Values};
-use sync_list::{Row, SyncList};
+use base_types::SignedMicrotick;
+use correction::Values;
+use sync_list::SyncList;
 
-// An array in which no number is laid yet.
-const NO_NUMBERS: [i32; midpoint::MOST] = [0; midpoint::MOST];
+// No values: nothing is laid in the array yet.
+const NO_VALUES: Values = Values {
+    numbers: [0; midpoint::MOST],
+    count: 0,
+};
 
 // The offset value of each ID, and zeros behind them. (The second promise follows from the first, and is the one that a
 // term cites. The same holds of the rate values.)
@@ -22,58 +25,40 @@ pub fn offset_values(list: SyncList) -> Values
     ensures value { result ≡ in_array (offset_values (listed list)) }
     ensures result_value { values_in result ≡ offset_values (listed list) }
 {
-    let listed = list.listed();
-    let mut numbers = NO_NUMBERS;
-    let mut count: usize = 0;
-    let mut i: usize = 0;
-    while i < listed {
-        let row = list.rows[i];
-        let value = correction::offset_value(row.deviations());
-        count = lay(&mut numbers, count, value);
-        i += 1;
+    let rows = list.listed();
+    let mut values = NO_VALUES;
+    for row in rows {
+        lay(&mut values, correction::offset_value(row.deviations()));
     }
-    Values { numbers, count }
+    values
 }
 
-// The rate value of each ID of the odd list that has one by the even list.
+// The rate value of each ID of the odd list that has one by the even list. (Two short loops: one function that takes a closure would need the
+// closure's own clauses in its contract.)
 pub fn rate_values(odd: SyncList, even: SyncList) -> Values
     ensures value { result ≡ in_array (rate_values_by held (listed odd) (listed even)) }
     ensures result_value { values_in result ≡ rate_values_by held (listed odd) (listed even) }
 {
-    let listed = odd.listed();
-    let even_listed = even.listed();
-    let mut numbers = NO_NUMBERS;
-    let mut count: usize = 0;
-    let mut i: usize = 0;
-    while i < listed {
-        let row = odd.rows[i];
-        let mut even_row = Row::blank(row.id);
-        let mut j: usize = 0;
-        while j < even_listed {
-            if even.rows[j].id.0 == row.id.0 {
-                even_row = even.rows[j];
-                break;
-            }
-            j += 1;
-        }
-        let value = correction::rate_value(row.deviations(), even_row.deviations());
-        count = lay(&mut numbers, count, value);
-        i += 1;
+    let rows = odd.listed();
+    let mut values = NO_VALUES;
+    for row in rows {
+        let even_row = even.row_of(row.id);
+        lay(
+            &mut values,
+            correction::rate_value(row.deviations(), even_row.deviations()),
+        );
     }
-    Values { numbers, count }
+    values
 }
 
-// Lays a value behind the first `count` numbers, where it is one, and answers how many there are then. (A proof is not
-// told the length of an array that is lent to its function, so the length is required and ensured.)
-fn lay(numbers: &mut [i32; midpoint::MOST], count: usize, value: Value) -> usize
-    requires { (count < most_values) × (length numbers.old ≡ most_values) × ZerosBehind count numbers.old }
-    ensures numbers_after { take result numbers.new ≡ take count numbers.old ++ before value [] }
-    ensures upper_bound { (result ≤ suc count) × (length numbers.new ≡ most_values) × ZerosBehind result numbers.new }
+// Lays a value behind the others, where it is one.
+fn lay(values: &mut Values, value: Option<SignedMicrotick>)
+    requires room { values.old.count ≤ most_ids }
+    requires zeros { values.old ≡ in_array (values_in values.old) }
+    ensures { values.new ≡ in_array (values_in values.old ++ before value []) }
 {
-    let Value::Is(x) = value else {
-        return count;
-    };
-    let number = x.0;
-    numbers[count] = number;
-    count + 1
+    if let Some(x) = value {
+        values.numbers[values.count] = x.0;
+        values.count += 1;
+    }
 }

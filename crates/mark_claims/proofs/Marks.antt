@@ -1,4 +1,6 @@
 -- Marks over sequences of calls: what is loaded is what the history says, and a sound state carries nothing else.
+use Rattle.std.specs.Prelude.{Option, None, Some}
+use Rattle.header.specs.declared.Header.{Header}
 use Prim.Native.Nat.{ℕ, zero, suc}
 use mathlib.Core.Path.{◌≡◌, refl, sym, ap, subst, ◌∙◌}
 use mathlib.Core.Bool.{Bool, true, false≢true, not, cond}
@@ -12,8 +14,6 @@ use Rattle.refusal.proofs.FirstLaws.{first_skip, first_end, first_zero, if_accep
 use Rattle.settings.specs.declared.Mark.{Mark}
 use Rattle.settings.specs.declared.Settings.{Settings}
 use Rattle.settings.specs.Sheet.{out_of_range, sync_id_limit, no_mark}
-use Rattle.slot.specs.declared.status.Kept.{Kept}
-use Rattle.slot.specs.declared.status.Kept.TheVariants.{Nothing, Frame}
 use Rattle.slot.specs.declared.status.Status.{Status}
 use Rattle.slot.specs.Judging.{place_of}
 use Rattle.slot.specs.Sound.{keeps_well}
@@ -27,7 +27,7 @@ use Rattle.clock.specs.declared.state.Clock.{Clock}
 use Rattle.clock.specs.Sound.{sound}
 use Rattle.clock.specs.State.{fresh, no_clock}
 use Rattle.clock.proofs.SoundLaws.{clauses, list_clauses}
-use Rattle.closing.specs.declared.CycleClosed.{CycleClosed}
+use Rattle.closing.specs.Closing.{CycleClosed}
 use Rattle.closing.specs.declared.Report.{Report}
 use Rattle.closing.specs.Closing as closing
 use Rattle.closing.specs.Closing.{CloseSays, closing_refusals, report_of, no_report}
@@ -229,9 +229,9 @@ reported_well calls c offset_control rate_control r made says =
 
 module _ (mark : Mark) (status : Status) where
   -- of the settings nothing is asked but fields
-  keeps_under : (k : Kept) → keeps_well (place_of (under_mark mark status)) k ≡ keeps_well (place_of status) k
-  keeps_under Nothing = refl
-  keeps_under (Frame h) = refl
+  keeps_under : (k : Option Header) → keeps_well (place_of (under_mark mark status)) k ≡ keeps_well (place_of status) k
+  keeps_under None = refl
+  keeps_under (Some h) = refl
 
   number_under : (clock : Clock) (observed action_point : Microtick)
       → first (measure_refusals clock (under_mark mark status) observed action_point) ≡ first (measure_refusals clock status observed action_point)

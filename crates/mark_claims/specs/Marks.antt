@@ -13,9 +13,9 @@ use Rattle.sync_list.specs.Lists.{listed}
 use Rattle.measurements.specs.Measurements.{Taken, stands_for}
 use Rattle.clock.specs.declared.state.Clock.{Clock}
 use Rattle.clock.specs.State.{no_clock}
-use Rattle.measuring.specs.declared.FrameMeasured.{FrameMeasured}
+use Rattle.measuring.specs.Measuring.{FrameMeasured}
 use Rattle.measuring.specs.Measuring.{MeasureSays}
-use Rattle.closing.specs.declared.CycleClosed.{CycleClosed}
+use Rattle.closing.specs.Closing.{CycleClosed}
 use Rattle.closing.specs.Closing as closing
 use Rattle.closing.specs.Closing.{CloseSays}
 use Rattle.clock_claims.specs.History.{Call, load, open_cycle, measure, close_cycle, Answer, closed, nothing, answer, past_of}

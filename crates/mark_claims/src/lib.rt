@@ -1,15 +1,17 @@
 // What follows for the marks of settings (document 02, C-17). `specs/` states the claims, `proofs/` proves them, and this file has their
-// witnesses: short functions over the entries, proved from their contracts alone. Sequences of calls are numbers, as in `clock_claims`.
+// witnesses: short functions over the entries, proved from their contracts alone. Sequences of calls are numbers, as in `clock_claims`, whose
+// definitions they go by.
 #![tactic(auto)]
 
 ghost use Rattle.clock_claims.specs.Witnesses.{calls_of};
 ghost use Rattle.measuring.specs.Measuring.{MeasureSays};
 ghost use Rattle.mark_claims.specs.Marks.{Marked, ReportedWell};
 
-use base_types::Microtick;
+use base_types::{Microtick, SignedMicrotick};
 use clock::Clock;
-use closing::CycleClosed;
-use measuring::FrameMeasured;
+use closing::{CloseRefusal, Report};
+use measuring::MeasureRefusal;
+use refusal::Answered;
 use settings::{Mark, Settings};
 use slot::Status;
 
@@ -36,7 +38,7 @@ pub fn reported(
     numbers: &[u64],
     offset_control: i32,
     rate_control: i32,
-) -> CycleClosed
+) -> Answered<Report, CloseRefusal, Clock>
     ensures { ReportedWell (calls_of sheet other_sheet status other_status numbers.now) offset_control rate_control result }
 {
     let state = clock_claims::played(sheet, other_sheet, status, other_status, numbers);
@@ -50,12 +52,12 @@ pub fn measured_under(
     mark: Mark,
     observed: Microtick,
     action_point: Microtick,
-) -> FrameMeasured
+) -> Answered<SignedMicrotick, MeasureRefusal, Clock>
     ensures { MeasureSays state status observed action_point result }
 {
-    let mut settings = status.settings;
-    settings.mark = mark;
-    let mut other = status;
-    other.settings = settings;
-    measuring::measure(state, other, observed, action_point)
+    let settings = Settings {
+        mark,
+        ..status.settings
+    };
+    measuring::measure(state, Status { settings, ..status }, observed, action_point)
 }

@@ -5,9 +5,9 @@ use mathlib.Core.List.Permᴰ
 use mathlib.Core.List.{List, [], ◌∷◌, ◌++◌, map-append}
 use Prim.Native.Nat.{ℕ, zero, suc, ◌≤◌, ◌<◌}
 use native.Mathlib.Omega.{arith}
-use borrow.Author.Tests.{eq-eqb, ltb-true, ltb-false}
+use borrow.Author.Tests.{eq-eqb}
 use lib.Dec.{eqb}
-use lib.ListN.{get_or-eq_default, get_or, length, length-map, set}
+use lib.ListN.{get_or-eq_default, get_or, length, set, take}
 use lib.Seq.{length-take-le, take-set-lt, take-suc-set}
 use Rattle.numbers.proofs.Truth.{both_true, true_both}
 use Rattle.numbers.proofs.Walk.{cases}
@@ -18,21 +18,19 @@ use Rattle.base_types.specs.declared.channel.Channel.TheVariants.{A, B}
 use Rattle.base_types.specs.declared.id.Slot.{Slot}
 use Rattle.base_types.specs.Slot.{not_an_id}
 use Rattle.base_types.specs.Microtick.{is_deviation}
-use Rattle.sync_list.specs.declared.row.Measured.{Measured}
-use Rattle.sync_list.specs.declared.row.Measured.TheVariants.{Nothing, Is}
 use Rattle.sync_list.specs.declared.row.Measurement.{Measurement}
 use Rattle.sync_list.specs.declared.row.Row.{Row}
 use Rattle.sync_list.specs.declared.list.SyncList.{SyncList}
-use Rattle.sync_list.specs.Rows.{blank, is_measured, on, with_measured}
+use Rattle.sync_list.specs.Rows.{Measured, blank, is_measured, on, with_measured}
 use Rattle.sync_list.specs.Lists.{row_count, listed, id_of, ids_of, is_among, none_twice, place_of, row_in, is_measured_on, recorded}
 use Rattle.list_soundness.specs.Sound.{is_in_range, row_sound, each_row, rows_sound, carries, row_marked, all_marked}
-use Rattle.sync_list.proofs.ListLaws.{recorded_known, recorded-new}
-use Rattle.sync_list.proofs.PlaceLaws.{among_place, place_most}
+use Rattle.sync_list.proofs.ListLaws.{known_place, new_place, added, recorded_known, recorded-new}
 use Rattle.list_soundness.proofs.RangedLaws.{Ranged, in_ranged}
 use Rattle.list_soundness.proofs.EachLaws.{each_end, each_set, each_in}
 use Rattle.measurements.specs.Measurements.{Taken, taken, stands_for}
 use Rattle.sync_list.proofs.AmongLaws.{none_twice_end}
 use Rattle.measurements.proofs.RowInLaws.{in_id}
+use Rattle.std.specs.Prelude.{None, Some}
 
 -- ---- one measurement more
 
@@ -47,9 +45,9 @@ behind_row row n rows more p =
     (Permᴰ.append_left a (Permᴰ.trans (Permᴰ.append_left b p) (Permᴰ.middle n b (stands_for rows))))
     (Permᴰ.middle n a (b ++ stands_for rows))
 
-unmeasured : (x : Measured) → is_measured x ≡ false → x ≡ Nothing
-unmeasured Nothing e = refl
-unmeasured (Is m) e = absurd (false≢true (sym e))
+unmeasured : (x : Measured) → is_measured x ≡ false → x ≡ None
+unmeasured None e = refl
+unmeasured (Some m) e = absurd (false≢true (sym e))
 
 blank_on : (channel : Channel) (id : Slot) → is_measured (on channel (blank id)) ≡ false
 blank_on A id = refl
@@ -117,57 +115,45 @@ module _ (l : SyncList) (id : Slot) (channel : Channel) (m : Measurement) (long 
   rows_count : length (listed l) ≡ l.count
   rows_count = length-take-le l.count l.rows (omega arith)
 
-  ids_count : length (ids_of (listed l)) ≡ l.count
-  ids_count = length-map (listed l) id_of ∙ rows_count
+  -- a new ID has its place behind all others
+  behind : is_among id.0 (ids_of (listed l)) ≡ false → place_of id l ≡ l.count
+  behind new = new_place l id new ∙ rows_count
 
-  -- a listed ID has its place among the rows, another one the place behind them
-  known_place : is_among id.0 (ids_of (listed l)) ≡ true → place_of id l < l.count
-  known_place known =
-      let h : place_of id l < length (ids_of (listed l)) = ltb-true _ _ (among_place id.0 (ids_of (listed l)) ∙ known) in
-      omega (arith, ids_count)
-
-  new_place : is_among id.0 (ids_of (listed l)) ≡ false → place_of id l ≡ l.count
-  new_place new =
-      let h : length (ids_of (listed l)) ≤ place_of id l = ltb-false _ _ (among_place id.0 (ids_of (listed l)) ∙ new) in
-      omega (arith, ids_count, place_most id.0 (ids_of (listed l)))
-
-  abbrev added : Row
-  added = with_measured channel m (row_in id (listed l))
+  abbrev row : Row
+  row = added l id channel m
 
   module _ (room : place_of id l < row_count) where
-    -- the new list where the ID is listed, and where it is not
-    with-known : is_among id.0 (ids_of (listed l)) ≡ true → recorded id channel m l ≡ record { rows = set l.rows (place_of id l) added; count = l.count }
-    with-known known = sym (recorded_known l long id channel m (place_of id l) added refl refl room known)
-
-    with-new : is_among id.0 (ids_of (listed l)) ≡ false → recorded id channel m l ≡ record { rows = set l.rows l.count added; count = suc l.count }
-    with-new new = sym (recorded-new l long id channel m l.count added (sym (new_place new)) refl (rw (← new_place new) room) new)
-
     pub recorded-count-known : is_among id.0 (ids_of (listed l)) ≡ true → (recorded id channel m l).count ≡ l.count
-    recorded-count-known known = ap (λ (r : SyncList). r.count) (with-known known)
+    recorded-count-known known = ap (λ (r : SyncList). r.count) (recorded_known l id channel m room known)
 
     pub recorded-count-new : is_among id.0 (ids_of (listed l)) ≡ false → (recorded id channel m l).count ≡ suc l.count
-    recorded-count-new new = ap (λ (r : SyncList). r.count) (with-new new)
+    recorded-count-new new = ap (λ (r : SyncList). r.count) (recorded-new l id channel m room new) ∙ ap suc (behind new)
 
-    listed-known : is_among id.0 (ids_of (listed l)) ≡ true → listed (recorded id channel m l) ≡ set (listed l) (place_of id l) added
-    listed-known known = ap listed (with-known known) ∙ take-set-lt l.count l.rows (place_of id l) added (known_place known)
+    listed-known : is_among id.0 (ids_of (listed l)) ≡ true → listed (recorded id channel m l) ≡ set (listed l) (place_of id l) row
+    listed-known known =
+        let place : place_of id l < l.count = omega (arith, known_place l id known, rows_count) in
+        ap listed (recorded_known l id channel m room known) ∙ take-set-lt l.count l.rows (place_of id l) row place
 
-    listed-new : is_among id.0 (ids_of (listed l)) ≡ false → listed (recorded id channel m l) ≡ listed l ++ (added ∷ [])
-    listed-new new = ap listed (with-new new) ∙ take-suc-set l.rows l.count added (omega (arith, new_place new))
+    listed-new : is_among id.0 (ids_of (listed l)) ≡ false → listed (recorded id channel m l) ≡ listed l ++ (row ∷ [])
+    listed-new new = ap listed (recorded-new l id channel m room new) ∙ at (place_of id l) (behind new)
+      where
+        at : (p : ℕ) → p ≡ l.count → take (suc p) (set l.rows p row) ≡ listed l ++ (row ∷ [])
+        at p e = rw e (take-suc-set l.rows l.count row (omega (arith, behind new)))
 
     pub recorded-once : none_twice (ids_of (listed l)) ≡ true → none_twice (ids_of (listed (recorded id channel m l))) ≡ true
     recorded-once n =
         cases (is_among id.0 (ids_of (listed l)))
-        (λ known. rw (listed-known known, ids_set (listed l) (place_of id l) added (blank id) (measured_id channel m (row_in id (listed l)))) n)
+        (λ known. rw (listed-known known, ids_set (listed l) (place_of id l) row (blank id) (measured_id channel m (row_in id (listed l)))) n)
         (λ new.
-        let e : id_of added ≡ id.0 = measured_id channel m (row_in id (listed l)) ∙ in_id id (listed l) in
-        rw (listed-new new, map-append id_of (listed l) (added ∷ []), e) (none_twice_end id.0 (ids_of (listed l)) n new))
+        let e : id_of row ≡ id.0 = measured_id channel m (row_in id (listed l)) ∙ in_id id (listed l) in
+        rw (listed-new new, map-append id_of (listed l) (row ∷ []), e) (none_twice_end id.0 (ids_of (listed l)) n new))
 
-    -- what is asked of each row holds of each again if it holds of the added one
-    recorded-each : (asked : Row → Bool) → each_row asked (listed l) ≡ true → asked added ≡ true → each_row asked (listed (recorded id channel m l)) ≡ true
+    -- what is asked of each row holds of each again if it holds of the row one
+    recorded-each : (asked : Row → Bool) → each_row asked (listed l) ≡ true → asked row ≡ true → each_row asked (listed (recorded id channel m l)) ≡ true
     recorded-each asked s e =
         cases (is_among id.0 (ids_of (listed l)))
-        (λ known. rw (listed-known known) (each_set asked (listed l) (place_of id l) added s e))
-        (λ new. rw (listed-new new) (each_end asked (listed l) added s e))
+        (λ known. rw (listed-known known) (each_set asked (listed l) (place_of id l) row s e))
+        (λ new. rw (listed-new new) (each_end asked (listed l) row s e))
 
     pub recorded-sound : rows_sound (listed l) ≡ true → not_an_id id.0 ≡ false → is_deviation m.deviation.0 ≡ true
         → rows_sound (listed (recorded id channel m l)) ≡ true
@@ -179,18 +165,18 @@ module _ (l : SyncList) (id : Slot) (channel : Channel) (m : Measurement) (long 
     recorded_marked s =
         recorded-each (row_marked m.mark) s
         (measured_marked channel m (row_in id (listed l))
-        (each_in (row_marked m.mark) (λ row. row_marked m.mark row ≡ true) (λ row e. e) (listed l) id s refl))
+        (each_in (row_marked m.mark) (λ r. row_marked m.mark r ≡ true) (λ r e. e) (listed l) id s refl))
 
   pub recorded_permuted : is_measured_on id channel l ≡ false → place_of id l < row_count
       → Permuted (stands_for (listed (recorded id channel m l))) (record { id = id.0; channel = channel; measurement = m } ∷ stands_for (listed l))
   recorded_permuted e room =
       cases (is_among id.0 (ids_of (listed l)))
       (λ known.
-      let h : place_of id l < length (listed l) = omega (arith, rows_count, known_place known) in
+      let h : place_of id l < length (listed l) = known_place l id known in
       rw (listed-known room known)
       (Permᴰ.trans
       (set_more m channel (listed l) (place_of id l) (blank id) h e)
       (Permᴰ.cons (ap (λ (x : ℕ). one m x channel) (in_id id (listed l))) (permuted_refl (stands_for (listed l))))))
       (λ new.
-      let b : row_in id (listed l) ≡ blank id = get_or-eq_default (listed l) (blank id) {n = place_of id l} (omega (arith, rows_count, new_place new)) in
+      let b : row_in id (listed l) ≡ blank id = get_or-eq_default (listed l) (blank id) {n = place_of id l} (omega (arith, new_place l id new)) in
       rw (listed-new room new, b) (end_more m channel id (listed l)))

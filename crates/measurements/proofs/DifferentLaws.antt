@@ -1,6 +1,6 @@
 -- Different numbers: what is left without one, in whatever order.
-use mathlib.Core.Path.{◌≡◌, refl, ap}
-use mathlib.Core.Bool.{Bool, true, false, cond}
+use mathlib.Core.Path.{◌≡◌, refl}
+use mathlib.Core.Bool.{true, false, cond}
 use mathlib.Core.List.Permᴰ
 use mathlib.Core.List.{List, [], ◌∷◌}
 use Prim.Native.Nat.{ℕ}
@@ -16,45 +16,39 @@ use Rattle.measurements.proofs.PermutedLaws.{rule_permuted}
 
 -- ---- without one
 
-without_none : (x : ℕ) → without x [] ≡ []
-unfolding without
-without_none x = refl
-
 module _ (x y : ℕ) (ys : List ℕ) where
   pub without_met : eqb y x ≡ true → without x (y ∷ ys) ≡ without x ys
   unfolding without
-  without_met e = ap (λ (b : Bool). cond b (without x ys) (y ∷ without x ys)) e
+  without_met e = rw e
 
   without_other : eqb y x ≡ false → without x (y ∷ ys) ≡ y ∷ without x ys
   unfolding without
-  without_other e = ap (λ (b : Bool). cond b (without x ys) (y ∷ without x ys)) e
+  without_other e = rw e
 
 pub without_absent : (x : ℕ) (l : List ℕ) → is_among x l ≡ false → without x l ≡ l
-without_absent x [] e = without_none x
+unfolding without
+without_absent x [] e = refl
 without_absent x (y ∷ ys) e =
     let h = not_among x y ys e in
-    rw (without_other x y ys h.0, without_absent x ys h.1)
+    let rest : without x ys ≡ ys = without_absent x ys h.1 in
+    simp (h.0, rest)
 
 pub without_twice : (x : ℕ) (l : List ℕ) → without x (without x l) ≡ without x l
-without_twice x [] = rw (without_none x, without_none x)
+unfolding without
+without_twice x [] = refl
 without_twice x (y ∷ ys) =
-    let ih : without x (without x ys) ≡ without x ys = without_twice x ys in
-    cases (eqb y x)
-    (λ e. rw (without_met x y ys e) ih)
-    (λ e. rw (without_other x y ys e, without_other x y (without x ys) e, ih))
+    let rest : without x (without x ys) ≡ without x ys = without_twice x ys in
+    cases (eqb y x) (λ e. simp (e, rest)) (λ e. simp (e, rest))
 
 -- two numbers can be left out in either order
 without_swap : (x y : ℕ) (l : List ℕ) → without x (without y l) ≡ without y (without x l)
-without_swap x y [] = rw (without_none x, without_none y, without_none x)
+unfolding without
+without_swap x y [] = refl
 without_swap x y (z ∷ zs) =
-    let ih : without x (without y zs) ≡ without y (without x zs) = without_swap x y zs in
+    let rest : without x (without y zs) ≡ without y (without x zs) = without_swap x y zs in
     cases (eqb z x)
-    (λ a. cases (eqb z y)
-    (λ b. rw (without_met x z zs a, without_met y z zs b) ih)
-    (λ b. rw (without_met x z zs a, without_other y z zs b, without_met x z (without y zs) a) ih))
-    (λ a. cases (eqb z y)
-    (λ b. rw (without_other x z zs a, without_met y z zs b, without_met y z (without x zs) b) ih)
-    (λ b. rw (without_other x z zs a, without_other y z zs b, without_other x z (without y zs) a, without_other y z (without x zs) b, ih)))
+    (λ a. cases (eqb z y) (λ b. simp (a, b) rest) (λ b. simp (a, b) rest))
+    (λ a. cases (eqb z y) (λ b. simp (a, b) rest) (λ b. simp (a, b, rest)))
 
 without_permuted : (x : ℕ) {l m : List ℕ} → Permuted l m → Permuted (without x l) (without x m)
 without_permuted x p =

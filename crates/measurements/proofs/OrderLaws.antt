@@ -11,10 +11,8 @@ use Rattle.midpoint.specs.Order.{Permuted}
 use Rattle.midpoint.proofs.OrderLaws.{midpoint_permuted}
 use Rattle.base_types.specs.declared.channel.Channel.{Channel}
 use Rattle.base_types.specs.declared.channel.Channel.TheVariants.{A, B}
-use Rattle.correction.specs.declared.value.Value.{Value}
-use Rattle.correction.specs.declared.value.Value.TheVariants.{Absent, Is}
 use Rattle.base_types.specs.Microtick.{whole}
-use Rattle.correction.specs.Values.{rate_value}
+use Rattle.correction.specs.Values.{Value, rate_value}
 use Rattle.correction.specs.Terms.{damped, limited, offset_term, rate_term, with_own}
 use Rattle.list_values.specs.Values.{before, present}
 use Rattle.measurements.specs.Measurements.{Taken, different_ids, same_channel}
@@ -22,6 +20,7 @@ use Rattle.measurements.specs.Terms.{deviation_on, deviations_on, offset_of, off
 use Rattle.measurements.proofs.PermutedLaws.{rule_permuted, map_permuted}
 use Rattle.measurements.proofs.DifferentLaws.{different_permuted}
 use Rattle.measurements.proofs.SmallestLaws.{smallest_permuted, deviations_permuted}
+use Rattle.std.specs.Prelude.{None, Some}
 
 -- ---- the IDs and the values
 
@@ -33,8 +32,8 @@ unfolding present
 present_permuted p = rule_permuted present (λ v. before v []) (λ v vs. front v (present vs)) p
   where
     front : (v : Value) (l : List ℤ) → before v l ≡ before v [] ++ l
-    front Absent l = refl
-    front (Is x) l = refl
+    front None l = refl
+    front (Some x) l = refl
 
 values_permuted : (value value' : ℕ → Value) → ((id : ℕ) → value id ≡ value' id) → {ids ids' : List ℕ} → Permuted ids ids'
     → Permuted (present (map value ids)) (present (map value' ids'))

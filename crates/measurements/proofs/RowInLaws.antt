@@ -9,24 +9,18 @@ use Rattle.numbers.proofs.Walk.{cases}
 use Rattle.base_types.specs.declared.id.Slot.{Slot}
 use Rattle.sync_list.specs.declared.row.Row.{Row}
 use Rattle.sync_list.specs.Lists.{id_of, ids_of, is_among, none_twice, row_in}
-use Rattle.sync_list.proofs.PlaceLaws.{place_here, place_later}
+use Rattle.sync_list.proofs.PlaceLaws.{in_here, in_later}
 use Rattle.sync_list.proofs.AmongLaws.{not_among, none_twice_lem, unequal_sym}
 
 module _ (id : Slot) where
-  pub in_here : (row : Row) (rows : List Row) → eqb (id_of row) id.0 ≡ true → row_in id (row ∷ rows) ≡ row
-  in_here row rows e = rw (place_here id.0 (id_of row) (ids_of rows) e)
-
-  pub in_later : (row : Row) (rows : List Row) → eqb (id_of row) id.0 ≡ false → row_in id (row ∷ rows) ≡ row_in id rows
-  in_later row rows e = rw (place_later id.0 (id_of row) (ids_of rows) e)
-
   -- it has that ID, also where it is blank
   pub in_id : (rows : List Row) → id_of (row_in id rows) ≡ id.0
   in_id [] = refl
   in_id (row ∷ rows) =
       let ih : id_of (row_in id rows) ≡ id.0 = in_id rows in
       cases (eqb (id_of row) id.0)
-      (λ e. ap id_of (in_here row rows e) ∙ eqb-true (id_of row) id.0 e)
-      (λ e. ap id_of (in_later row rows e) ∙ ih)
+      (λ e. ap id_of (in_here id row rows e) ∙ eqb-true (id_of row) id.0 e)
+      (λ e. ap id_of (in_later id row rows e) ∙ ih)
 
 -- what is said of the row of each ID is said of each row
 module _ {X : Type 0} (said : Row → X) where

@@ -12,14 +12,10 @@ use Rattle.base_types.specs.declared.channel.Channel.{Channel}
 use Rattle.base_types.specs.declared.channel.Channel.TheVariants.{A, B}
 use Rattle.base_types.specs.declared.id.Slot.{Slot}
 use Rattle.base_types.specs.Slot.{not_an_id}
-use Rattle.correction.specs.declared.value.Value.{Value}
-use Rattle.correction.specs.declared.value.Value.TheVariants as value
-use Rattle.correction.specs.Values.{smaller, offset_value, rate_value}
+use Rattle.correction.specs.Values.{Value, smaller, offset_value, rate_value}
 use Rattle.sync_list.specs.declared.row.Measurement.{Measurement}
-use Rattle.sync_list.specs.declared.row.Measured.{Measured}
-use Rattle.sync_list.specs.declared.row.Measured.TheVariants.{Nothing, Is}
 use Rattle.sync_list.specs.declared.row.Row.{Row}
-use Rattle.sync_list.specs.Rows.{is_measured, value_of, deviations_of}
+use Rattle.sync_list.specs.Rows.{Measured, is_measured, value_of, deviations_of}
 use Rattle.sync_list.specs.Lists.{id_of, ids_of, is_among, none_twice, row_in}
 use Rattle.list_soundness.specs.Sound.{row_sound, each_row, rows_sound}
 use Rattle.list_values.specs.Values.{present, offset_values, rate_values}
@@ -27,17 +23,19 @@ use Rattle.measurements.specs.Measurements.{Taken, taken, stands_for, without, d
 use Rattle.measurements.specs.Terms.{deviations_if, smallest, deviation_on, deviations_on, offset_of, offset_values_of, rate_of, rate_values_of}
 use Rattle.sync_list.proofs.AmongLaws.{not_among, none_twice_lem}
 use Rattle.measurements.proofs.DifferentLaws.{without_met, without_absent, without_twice}
-use Rattle.measurements.proofs.RowInLaws.{in_here, in_later, in_id, in_each}
+use Rattle.measurements.proofs.RowInLaws.{in_id, in_each}
+use Rattle.sync_list.proofs.PlaceLaws.{in_here, in_later}
+use Rattle.std.specs.Prelude.{None, Some}
 
 -- ---- the IDs
 
 row_ids : (id : ℕ) (a b : Measured) (ms : List Taken) → is_measured a || is_measured b ≡ true
     → different_ids (taken id A a ++ (taken id B b ++ ms)) ≡ id ∷ without id (different_ids ms)
 unfolding different
-row_ids id Nothing Nothing ms e = absurd (false≢true e)
-row_ids id Nothing (Is m) ms e = refl
-row_ids id (Is m) Nothing ms e = refl
-row_ids id (Is m) (Is n) ms e =
+row_ids id None None ms e = absurd (false≢true e)
+row_ids id None (Some m) ms e = refl
+row_ids id (Some m) None ms e = refl
+row_ids id (Some m) (Some n) ms e =
     ap (◌∷◌ id) (without_met id id (without id (different_ids ms)) (eq-eqb id id refl) ∙ without_twice id (different_ids ms))
 
 pub row_measured : (row : Row) → row_sound row ≡ true → is_measured row.on_a || is_measured row.on_b ≡ true
@@ -62,14 +60,14 @@ module _ (meant : Taken → Bool) (id : ℕ) (channel : Channel) where
   first_meant : ((m : Measurement) → meant (record { id = id; channel = channel; measurement = m }) ≡ true) → (x : Measured) (ms : List Taken)
       → smallest (deviations_if meant (taken id channel x ++ ms)) ≡ smaller (value_of x) (smallest (deviations_if meant ms))
   unfolding smallest deviations_if
-  first_meant e Nothing ms = refl
-  first_meant e (Is m) ms = rw (e m)
+  first_meant e None ms = refl
+  first_meant e (Some m) ms = rw (e m)
 
   first_other : ((m : Measurement) → meant (record { id = id; channel = channel; measurement = m }) ≡ false) → (x : Measured) (ms : List Taken)
       → deviations_if meant (taken id channel x ++ ms) ≡ deviations_if meant ms
   unfolding deviations_if
-  first_other e Nothing ms = refl
-  first_other e (Is m) ms = rw (e m)
+  first_other e None ms = refl
+  first_other e (Some m) ms = rw (e m)
 
 front_same : (meant : Taken → Bool) (l ms ns : List Taken) → deviations_if meant ms ≡ deviations_if meant ns
     → deviations_if meant (l ++ ms) ≡ deviations_if meant (l ++ ns)
@@ -122,8 +120,8 @@ module _ (id : Slot) (meant : Taken → Bool) (own : (m : Taken) → eqb m.id id
 
 none_smallest : (meant : Taken → Bool) (v : Value) → smaller v (smallest (deviations_if meant [])) ≡ v
 unfolding smallest deviations_if
-none_smallest meant value.Absent = refl
-none_smallest meant (value.Is x) = refl
+none_smallest meant None = refl
+none_smallest meant (Some x) = refl
 
 module _ (rows : List Row) (n : none_twice (ids_of rows) ≡ true) (id : Slot) where
   same_id : eqb id.0 id.0 ≡ true

@@ -7,12 +7,11 @@ use lib.Signed.{lt_z}
 use Rattle.numbers.proofs.Signed.{signed}
 use Rattle.numbers.proofs.Walk.{cases}
 use Rattle.midpoint.specs.Order.{Permuted}
-use Rattle.correction.specs.declared.value.Value.{Value}
-use Rattle.correction.specs.declared.value.Value.TheVariants.{Absent, Is}
-use Rattle.correction.specs.Values.{is, smaller}
+use Rattle.correction.specs.Values.{Value, is, smaller}
 use Rattle.measurements.specs.Measurements.{Taken}
 use Rattle.measurements.specs.Terms.{deviations_if, smallest}
 use Rattle.measurements.proofs.PermutedLaws.{rule_permuted, fold_permuted}
+use Rattle.std.specs.Prelude.{None, Some}
 
 -- ---- the smallest
 
@@ -24,8 +23,8 @@ smaller_comm x y =
 
 -- two numbers can be compared with a value in either order
 smaller_swap : (x y : ℤ) (v : Value) → smaller (is x) (smaller (is y) v) ≡ smaller (is y) (smaller (is x) v)
-smaller_swap x y Absent = smaller_comm x y
-smaller_swap x y (Is z) =
+smaller_swap x y None = smaller_comm x y
+smaller_swap x y (Some z) =
     cases (lt_z z.0 y)
     (λ a. cases (lt_z z.0 x)
     (λ b. rw (a, b, a))

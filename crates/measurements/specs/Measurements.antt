@@ -1,11 +1,10 @@
 -- The measurements of a cycle, as a list.
-use Rattle.std.specs.Prelude.{ℕ, Bool, true, false, cond, List, [], ◌∷◌, ◌++◌, map, eqb}
+use Rattle.std.specs.Prelude.{ℕ, Bool, true, false, cond, List, [], ◌∷◌, ◌++◌, map, eqb, None, Some}
 use Rattle.base_types.specs.declared.channel.Channel.{Channel}
 use Rattle.base_types.specs.declared.channel.Channel.TheVariants.{A, B}
 use Rattle.sync_list.specs.declared.row.Measurement.{Measurement}
-use Rattle.sync_list.specs.declared.row.Measured.{Measured}
-use Rattle.sync_list.specs.declared.row.Measured.TheVariants.{Nothing, Is}
 use Rattle.sync_list.specs.declared.row.Row.{Row}
+use Rattle.sync_list.specs.Rows.{Measured}
 use Rattle.sync_list.specs.Lists.{id_of}
 
 -- A measurement as 01 lists it: the ID and the channel of a frame, and what was measured of it.
@@ -18,8 +17,8 @@ pub record Taken : Type 0 where
 
 -- What a row has of its ID on one channel, as a list of one measurement or none.
 abbrev pub taken : ℕ → Channel → Measured → List Taken
-taken id channel Nothing = []
-taken id channel (Is m) = record { id = id; channel = channel; measurement = m } ∷ []
+taken id channel None = []
+taken id channel (Some m) = record { id = id; channel = channel; measurement = m } ∷ []
 
 unfoldable pub stands_for : List Row → List Taken
 stands_for [] = []

@@ -1,11 +1,9 @@
 -- The values of both terms over lists of measurements (01, "Clock"): "per ID", in whatever order they were measured.
-use Rattle.std.specs.Prelude.{ℕ, Bool, ◌&&◌, cond, List, [], ◌∷◌, map, eqb, ℤ}
+use Rattle.std.specs.Prelude.{ℕ, Bool, ◌&&◌, cond, List, [], ◌∷◌, map, eqb, ℤ, None}
 use Rattle.base_types.specs.declared.channel.Channel.{Channel}
 use Rattle.base_types.specs.declared.channel.Channel.TheVariants.{A, B}
-use Rattle.correction.specs.declared.value.Value.{Value}
-use Rattle.correction.specs.declared.value.Value.TheVariants.{Absent}
 use Rattle.correction.specs.declared.value.Deviations.{Deviations}
-use Rattle.correction.specs.Values.{is, smaller, rate_value}
+use Rattle.correction.specs.Values.{Value, is, smaller, rate_value}
 use Rattle.list_values.specs.Values.{present}
 use Rattle.measurements.specs.Measurements.{Taken, different_ids, same_channel}
 
@@ -16,7 +14,7 @@ deviations_if meant (m ∷ ms) = cond (meant m) (m.measurement.deviation.0 ∷ d
 
 -- The smallest of some numbers, by sign; none where there is none.
 unfoldable pub smallest : List ℤ → Value
-smallest [] = Absent
+smallest [] = None
 smallest (d ∷ ds) = smaller (is d) (smallest ds)
 
 -- "per ID the smaller of its deviations in this cycle", of the measurements of one cycle.

@@ -1,3 +1,2 @@
-pub mod StatementLaws
 pub mod DeviationLaws
-pub mod AnswerLaws
+pub mod TakenLaws

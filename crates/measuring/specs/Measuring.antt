@@ -1,36 +1,44 @@
 -- Measuring a sync frame: what it answers, and the clock state that comes back (01, "Clock").
-use Rattle.std.specs.Prelude.{ℕ, ◌≡◌, Bool, not, ◌&&◌, ◌||◌, List, [], ◌∷◌, eqb, ℤ, pos}
+use Rattle.std.specs.Prelude.{ℕ, ◌≡◌, Bool, not, ◌&&◌, ◌||◌, cond, is_some, unwrap_or, List, [], ◌∷◌, Option, None, Some, Result, Ok, Err, eqb, ℤ, pos}
+use Rattle.std.specs.Result.{result_unwrap_or}
+use Rattle.refusal.specs.Answer.{number_in}
+use Rattle.refusal.specs.declared.Answered.{Answered}
 use Rattle.refusal.specs.Refusal.{Line, ◌when◌, first, if_accepted}
 use Rattle.base_types.specs.declared.channel.Channel.{Channel}
 use Rattle.base_types.specs.declared.channel.Channel.TheVariants.{A, B}
 use Rattle.header.specs.declared.Header.{Header}
+use Rattle.header.specs.Layout.{no_header}
 use Rattle.settings.specs.declared.Settings.{Settings}
 use Rattle.settings.specs.Sheet.{decoding_correction, delay_a, delay_b, sync_id_limit}
 use Rattle.slot.specs.declared.status.Status.{Status}
-use Rattle.slot.specs.Judging.{place_of, is_static, is_frame, header_kept}
+use Rattle.slot.specs.Judging.{place_of, is_static}
 use Rattle.slot.specs.Sound as slot
 use Rattle.base_types.specs.declared.microtick.Microtick.{Microtick}
+use Rattle.base_types.specs.declared.microtick.SignedMicrotick.{SignedMicrotick}
 use Rattle.base_types.specs.Microtick.{above_time_limit, whole}
 use Rattle.correction.specs.Deviation.{deviation}
 use Rattle.sync_list.specs.declared.row.Measurement.{Measurement}
 use Rattle.sync_list.specs.Lists.{is_measured_on, is_full_for, recorded}
 use Rattle.clock.specs.declared.state.Clock.{Clock}
-use Rattle.measuring.specs.declared.Measuring.{Measuring}
-use Rattle.measuring.specs.declared.Measuring.TheVariants as measuring
-use Rattle.measuring.specs.declared.FrameMeasured.{FrameMeasured}
-use Rattle.clock.specs.State.{is_there, current_cycle, list_of, with_list}
+use Rattle.measuring.specs.declared.MeasureRefusal.{MeasureRefusal}
+use Rattle.measuring.specs.declared.MeasureRefusal.TheVariants.{NotSound, NoCycleOpen, TimeTooHigh, NoSyncFrame, OtherCycle, MeasuredAlready, ListFull}
+use Rattle.clock.specs.State.{current_cycle, list_of, with_list}
 use Rattle.clock.specs.Sound.{sound}
 
 -- ---- the frame
 
 -- "ID and cycle the kept frame's".
 abbrev pub frame_of : Status → Header
-frame_of status = header_kept status.kept
+frame_of status = unwrap_or status.kept no_header
 
 -- 20: "slot status has no valid frame, or its frame isn't a sync frame, or its slot isn't static". A sound status keeps a frame exactly
 -- with "valid". Static is read by the status's settings, and only that.
 abbrev pub no_sync_frame : Status → Bool
-no_sync_frame status = not (is_frame status.kept) || (not (frame_of status).sync || not (is_static (place_of status)))
+no_sync_frame status = not (is_some status.kept) || (not (frame_of status).sync || not (is_static (place_of status)))
+
+-- The frame that is measured, where 20 isn't given.
+abbrev pub sync_frame : Status → Option Header
+sync_frame status = cond (no_sync_frame status) None (Some (frame_of status))
 
 -- 22: "frame's cycle is not the open cycle".
 abbrev pub other_cycle : Clock → Status → Bool
@@ -75,7 +83,7 @@ measurement_by clock = measurement_with whole clock.settings
 abbrev pub measure_refusals : Clock → Status → Microtick → Microtick → List Line
 measure_refusals clock status observed action_point =
     23 when not (sound clock && slot.sound status)
-    ∷ 18 when not (is_there clock.opened)
+    ∷ 18 when not (is_some clock.opened)
     ∷ 14 when (above_time_limit observed.0 || above_time_limit action_point.0)
     ∷ 20 when no_sync_frame status
     ∷ 22 when other_cycle clock status
@@ -88,21 +96,43 @@ pub record Told : Type 0 where
   pub number : ℕ
   pub deviation : ℤ
 
--- 01's number and deviation for each case.
+-- The number of each refusal.
+abbrev pub number_of : MeasureRefusal → ℕ
+number_of NotSound = 23
+number_of NoCycleOpen = 18
+number_of TimeTooHigh = 14
+number_of NoSyncFrame = 20
+number_of OtherCycle = 22
+number_of MeasuredAlready = 16
+number_of ListFull = 15
+
+-- An answer is the deviation, or why the frame is not measured.
+abbrev pub Measuring : Type 0
+Measuring = Result SignedMicrotick MeasureRefusal
+
+-- The answer, and the clock state beside it.
+abbrev pub FrameMeasured : Type 0
+FrameMeasured = Answered SignedMicrotick MeasureRefusal Clock
+
 abbrev pub told : Measuring → Told
-told (measuring.Taken d) = record { number = 0; deviation = d.0 }
-told measuring.NotSound = record { number = 23; deviation = pos 0 }
-told measuring.NoCycleOpen = record { number = 18; deviation = pos 0 }
-told measuring.TimeTooHigh = record { number = 14; deviation = pos 0 }
-told measuring.NoSyncFrame = record { number = 20; deviation = pos 0 }
-told measuring.OtherCycle = record { number = 22; deviation = pos 0 }
-told measuring.MeasuredAlready = record { number = 16; deviation = pos 0 }
-told measuring.ListFull = record { number = 15; deviation = pos 0 }
+told answer = record { number = number_in number_of answer; deviation = (result_unwrap_or answer (record { 0 = pos 0 })).0 }
 
 -- The clock with the measurement in the open cycle's list.
 abbrev pub measured_on : Clock → Status → Measurement → Clock
 measured_on clock status m =
     with_list (current_cycle clock) (recorded (frame_of status).id status.channel m (list_of (current_cycle clock) clock)) clock
+
+-- What measuring works out before the state is put beside a refusal: the deviation with the state that has the measurement, or the first
+-- refusal.
+abbrev pub TakenSays : Clock → Status → Microtick → Microtick → Result (SignedMicrotick × Clock) MeasureRefusal → Type 0
+TakenSays clock status observed action_point (Ok taken) =
+    (first (measure_refusals clock status observed action_point) ≡ 0)
+    × (taken
+    ≡ (
+      record { 0 = deviation_by clock status observed action_point },
+      measured_on clock status (measurement_by clock status observed action_point),
+    ))
+TakenSays clock status observed action_point (Err refusal) = number_of refusal ≡ first (measure_refusals clock status observed action_point)
 
 -- The answer's number is the refusal, and its deviation 01's. The clock state has the measurement, or, with a refusal, is the one
 -- handed in.
@@ -112,6 +142,6 @@ pub record MeasureSays (clock : Clock) (status : Status) (observed action_point 
         number = first (measure_refusals clock status observed action_point);
         deviation = if_accepted (first (measure_refusals clock status observed action_point)) (deviation_by clock status observed action_point) (pos 0);
       }
-  pub leaves : r.clock
+  pub leaves : r.state
       ≡ if_accepted (first (measure_refusals clock status observed action_point))
       (measured_on clock status (measurement_by clock status observed action_point)) clock

@@ -1,5 +1,4 @@
 pub mod SortLaws
-pub mod PassLaws
 pub mod MiddleLaws
 pub mod OrderLaws
 pub mod RangeLaws

@@ -1,4 +1,3 @@
 pub mod Midpoint
-pub mod Pass
 pub mod Order
 pub mod Words

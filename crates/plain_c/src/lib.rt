@@ -6,8 +6,11 @@
 
 ghost use Rattle.plain_c.specs.Plain.{PlainReadSays, PlainChecksumSays};
 
+use header::Header;
+use refusal::Answer;
+
 // What reading tells: the refusal number or 0, the nine fields, all 0 with a refusal, and the checksum found and the one expected, both 0 but
-// with refusals 4 and 8.
+// with refusals 4 and 8. (Numbers, as C takes them.)
 #[repr(C)]
 #[derive(Clone, Copy)]
 pub struct PlainReading {
@@ -40,8 +43,8 @@ pub extern "C" fn hridvanolt_read(channel: u8, bytes: &[u8]) -> PlainReading
     ensures { PlainReadSays channel bytes.now result }
 {
     let reading = frame::read(channel, bytes);
-    let header = reading.header();
-    let checksums = reading.checksums();
+    let header = reading.unwrap_or(Header::NONE);
+    let checksums = frame::checksums_told(reading);
     PlainReading {
         number: reading.number(),
         reserved: header.reserved,
@@ -66,6 +69,6 @@ pub extern "C" fn hridvanolt_frame_checksum(channel: u8, bytes: &[u8]) -> PlainC
     let checksum = checksum::frame_checksum(channel, bytes);
     PlainChecksum {
         number: checksum.number(),
-        value: checksum.value(),
+        value: checksum.unwrap_or(0),
     }
 }

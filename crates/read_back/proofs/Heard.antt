@@ -13,11 +13,10 @@ use Rattle.base_types.specs.declared.channel.Channel.{Channel}
 use Rattle.base_types.specs.Channel.{not_a_channel, channel_of}
 use Rattle.header.specs.Layout.{longest_frame}
 use Rattle.wire_reader.specs.declared.reader.Reader.{Reader}
-use Rattle.wire_reader.specs.declared.opening.Opened.{Opened}
 use Rattle.wire_reader.specs.declared.listening.Listened.{Listened}
 use Rattle.wire_reader.specs.Decoder.{Place}
 use Rattle.wire_reader.specs.Reader.{State, Event, Run, Piece, fresh, run, piece, fresh_reader, no_reader}
-use Rattle.wire_reader.specs.Opening.{OpenSays}
+use Rattle.wire_reader.specs.Opening.{Opened, OpenSays}
 use Rattle.wire_reader.specs.Listening as listening
 use Rattle.wire_reader.specs.Listening.{is_high, told, heard, refusal, ListenSays}
 use Rattle.reader_claims.specs.declared.Played.{Played}
@@ -33,7 +32,7 @@ use Rattle.read_back.proofs.Undisturbed.{undisturbed}
 
 -- ---- a fresh reader
 
-opened_is : (channel : ℕ) (r : Opened) → OpenSays channel r → not_a_channel channel ≡ false → r.reader ≡ fresh_reader (channel_of channel)
+opened_is : (channel : ℕ) (r : Opened) → OpenSays channel r → not_a_channel channel ≡ false → r.state ≡ fresh_reader (channel_of channel)
 opened_is channel r h e =
     h.leaves ∙ ap (λ (n : ℕ). if_accepted n (fresh_reader (channel_of channel)) no_reader) (first_none_left (passed e))
 
@@ -51,12 +50,12 @@ unfolding events_of
 one_event s = refl
 
 pub first_heard : (channel : ℕ) (samples before after : List ℕ) (opened : Opened) (r : Listened) → OpenSays channel opened
-    → ListenSays opened.reader samples before after r → FirstHeard channel samples before after r
+    → ListenSays opened.state samples before after r → FirstHeard channel samples before after r
 first_heard channel samples before after opened r o h s ready right e =
     let ch = channel_of channel in
     let same = opened_is channel opened o ready.named in
-    let ok : refusal opened.reader before ≡ 0 = ap (λ (x : Reader). refusal x before) same ∙ accepted ch before ready.room in
-    let p : heard opened.reader samples before ≡ piece ch (fresh before) (samples_of s) =
+    let ok : refusal opened.state before ≡ 0 = ap (λ (x : Reader). refusal x before) same ∙ accepted ch before ready.room in
+    let p : heard opened.state samples before ≡ piece ch (fresh before) (samples_of s) =
     ap (λ (x : Reader). heard x samples before) same ∙ ap (piece ch (fresh before)) e in
     let back = everything_read_back (channel_of channel) 0 before (s ∷ []) ready.room (◌and◌ right none) in
     let k = first_event ch (fresh before) (samples_of s) (given (0 + end_of s) (since_of s) s) []
@@ -88,7 +87,7 @@ nearly_frames (disturbed.one end reference e r rest) =
     (omega arith, omega arith)
 
 pub all_heard : (channel : ℕ) (samples before after : List ℕ) (opened : Opened) (r : Played) → OpenSays channel opened
-    → PlayedSays opened.reader samples before after r → AllHeard channel samples before after r
+    → PlayedSays opened.state samples before after r → AllHeard channel samples before after r
 all_heard channel samples before after opened r o h =
     record {
       clean = λ l ready right e.
@@ -107,18 +106,18 @@ all_heard channel samples before after opened r o h =
           );
     }
   where
-    ok : Ready channel before → refusal opened.reader before ≡ 0
+    ok : Ready channel before → refusal opened.state before ≡ 0
     ok ready = ap (λ (x : Reader). refusal x before) (opened_is channel opened o ready.named) ∙ accepted (channel_of channel) before ready.room
 
-    whole : Ready channel before → (l : List Bool) → map is_high samples ≡ l → all_of opened.reader samples before ≡ run (channel_of channel) 0 (fresh before) l
+    whole : Ready channel before → (l : List Bool) → map is_high samples ≡ l → all_of opened.state samples before ≡ run (channel_of channel) 0 (fresh before) l
     whole ready l e =
         ap (λ (x : Reader). all_of x samples before) (opened_is channel opened o ready.named) ∙ ap (run (channel_of channel) 0 (fresh before)) e
 
-    frames-are : Ready channel before → r.frames ≡ frames_in (all_of opened.reader samples before).events
+    frames-are : Ready channel before → r.frames ≡ frames_in (all_of opened.state samples before).events
     frames-are ready = h.frames ∙ if_accepted_lem _ _ _ (ok ready)
 
-    errors-are : Ready channel before → r.errors ≡ errors_in (all_of opened.reader samples before).events
+    errors-are : Ready channel before → r.errors ≡ errors_in (all_of opened.state samples before).events
     errors-are ready = h.errors ∙ if_accepted_lem _ _ _ (ok ready)
 
-    memory_is : Ready channel before → after ≡ (all_of opened.reader samples before).state.place.memory
+    memory_is : Ready channel before → after ≡ (all_of opened.state samples before).state.place.memory
     memory_is ready = h.keeps ∙ if_accepted_lem _ _ _ (ok ready)

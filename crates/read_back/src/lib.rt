@@ -12,7 +12,7 @@ pub fn first_heard(channel: u8, samples: &[u8], memory: &mut [u8]) -> Listened
     ensures { FirstHeard channel samples.now memory.old memory.new result }
 {
     let opened = wire_reader::open_reader(channel);
-    wire_reader::listen(opened.reader, samples, memory)
+    wire_reader::listen(opened.state, samples, memory)
 }
 
 // How many frames and errors it hears in all, and what lies in the memory then. Of frames that were sent one behind the other it is as many
@@ -21,5 +21,5 @@ pub fn all_heard(channel: u8, samples: &[u8], memory: &mut [u8]) -> Played
     ensures { AllHeard channel samples.now memory.old memory.new result }
 {
     let opened = wire_reader::open_reader(channel);
-    reader_claims::play(opened.reader, samples, memory)
+    reader_claims::play(opened.state, samples, memory)
 }

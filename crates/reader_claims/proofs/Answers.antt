@@ -1,82 +1,91 @@
 -- The claims about the answers, from the statements alone.
-use Prim.Native.Nat.{ℕ, zero, suc}
+use Prim.Native.Nat.{ℕ, zero, suc, ◌-◌}
 use mathlib.Core.Path.{◌≡◌, refl, sym, ap, ◌∙◌}
 use mathlib.Core.Bool.{cond}
-use mathlib.Core.List.{List}
+use mathlib.Core.List.{List, [], ◌∷◌}
 use native.Mathlib.Omega.{arith}
-use borrow.Author.Tests.{ne_eqb}
-use lib.Dec.{eqb}
+use lib.Dec.{eqb, leb}
+use lib.ListN.{get_or}
 use Rattle.refusal.specs.Refusal.{numbered, if_accepted}
+use Rattle.refusal.proofs.AnswerLaws.{one_answer}
 use Rattle.refusal.proofs.FirstLaws.{told_in_order, if_refused}
+use Rattle.std.specs.Prelude.{Result, Some, None, Ok, Err}
+use Rattle.base_types.specs.declared.channel.NotAChannel.{NotAChannel}
 use Rattle.frame.specs.Read as read
-use Rattle.frame.proofs.AnswerLaws.{number_at_most}
-use Rattle.frame_claims.proofs.Answers.{reading_by, reading_by_lem}
-use Rattle.wire_reader.specs.declared.event.Event.{Event}
-use Rattle.wire_reader.specs.declared.event.Event.TheVariants as event
+use Rattle.frame.specs.declared.ReadRefusal.{ReadRefusal}
+use Rattle.frame.specs.declared.ReadRefusal.TheVariants as refusals
+use Rattle.wire_reader.specs.declared.event.WireError.{WireError}
+use Rattle.wire_reader.specs.declared.event.WireError.TheVariants as errors
+use Rattle.wire_reader.specs.declared.listening.ListenRefusal.TheVariants as listening
 use Rattle.wire_reader.specs.declared.reader.Reader.{Reader}
-use Rattle.wire_reader.specs.declared.opening.Opening.{Opening}
-use Rattle.wire_reader.specs.declared.opening.Opening.TheVariants as opened
-use Rattle.wire_reader.specs.declared.listening.Listening.{Listening}
-use Rattle.wire_reader.specs.declared.listening.Listening.TheVariants as listening
 use Rattle.wire_reader.specs.declared.listening.Listened.{Listened}
 use Rattle.wire_reader.specs.Decoder as decoder
 use Rattle.wire_reader.specs.Reader.{Piece, piece, state_of, reader_of}
+use Rattle.wire_reader.specs.Event.{Event}
 use Rattle.wire_reader.specs.Opening as opening
-use Rattle.wire_reader.specs.Listening.{told_by, Told, told, heard, refusal, ListenSays}
+use Rattle.wire_reader.specs.Opening.{Opening}
+use Rattle.wire_reader.specs.Listening.{Listening, error_told, told_by, Told, told, heard, refusal, ListenSays}
 use Rattle.reader_claims.specs.Answers.{OpenOne, ListenOne, OpenInOrder, ListenInOrder, ListenRefused, LevelsAlone}
 
 -- ---- one answer
 
--- the event that is told
-error_by : read.Told → Event
-error_by t =
-    cond (eqb t.number 30) event.StartTooLong
-    (cond (eqb t.number 31) event.FrameStartTooLong
-    (cond (eqb t.number 32) event.ByteStartNotHigh
-    (cond (eqb t.number 33) event.ByteStartNotLow
-    (cond (eqb t.number 34) event.EndNotLow
-    (cond (eqb t.number 35) event.EndNotHigh (event.NotAFrame (reading_by t)))))))
+-- the error that is told
+refusal_by : read.Told → ReadRefusal
+refusal_by t =
+    get_or
+    (refusals.NotAChannel ∷ refusals.NotAChannel ∷ refusals.TooShort ∷ refusals.BadSize ∷ refusals.HeaderChecksumDiffers t.checksums
+    ∷ refusals.WordsNotSize ∷ refusals.IdZero ∷ refusals.StartupWithoutSync ∷ [])
+    t.number (refusals.FrameChecksumDiffers t.checksums)
 
+error_by : read.Told → WireError
+error_by t =
+    cond (leb t.number 8) (errors.NotAFrame (refusal_by t))
+    (get_or
+    (errors.StartTooLong ∷ errors.FrameStartTooLong ∷ errors.ByteStartNotHigh ∷ errors.ByteStartNotLow ∷ errors.EndNotLow ∷ [])
+    (t.number - 30) errors.EndNotHigh)
+
+error_by_lem : (e : WireError) → error_by (error_told e) ≡ e
+unfolding error_by refusal_by
+error_by_lem (errors.NotAFrame refusals.NotAChannel) = refl
+error_by_lem (errors.NotAFrame refusals.TooShort) = refl
+error_by_lem (errors.NotAFrame refusals.BadSize) = refl
+error_by_lem (errors.NotAFrame (refusals.HeaderChecksumDiffers checksums)) = refl
+error_by_lem (errors.NotAFrame refusals.WordsNotSize) = refl
+error_by_lem (errors.NotAFrame refusals.IdZero) = refl
+error_by_lem (errors.NotAFrame refusals.StartupWithoutSync) = refl
+error_by_lem (errors.NotAFrame (refusals.FrameChecksumDiffers checksums)) = refl
+error_by_lem errors.StartTooLong = refl
+error_by_lem errors.FrameStartTooLong = refl
+error_by_lem errors.ByteStartNotHigh = refl
+error_by_lem errors.ByteStartNotLow = refl
+error_by_lem errors.EndNotLow = refl
+error_by_lem errors.EndNotHigh = refl
+
+-- the event
 event_by : decoder.Told → Event
-event_by decoder.nothing = event.Nothing
-event_by (decoder.frame header size since) = event.Frame (record { header = header; size = size; since = since })
-event_by (decoder.wrong t) = error_by t
+event_by decoder.nothing = None
+event_by (decoder.frame header size since) = Some (Ok (record { header = header; size = size; since = since }))
+event_by (decoder.wrong t) = Some (Err (error_by t))
 
 event_by_lem : (e : Event) → event_by (told_by e) ≡ e
-unfolding event_by error_by
-event_by_lem event.Nothing = refl
-event_by_lem (event.Frame heard) = refl
-event_by_lem (event.NotAFrame r) =
-    let small = number_at_most r in
-    rw (
-      ne_eqb (read.told r).number 30 (λ e. omega arith),
-      ne_eqb (read.told r).number 31 (λ e. omega arith),
-      ne_eqb (read.told r).number 32 (λ e. omega arith),
-      ne_eqb (read.told r).number 33 (λ e. omega arith),
-      ne_eqb (read.told r).number 34 (λ e. omega arith),
-      ne_eqb (read.told r).number 35 (λ e. omega arith),
-    ) (ap event.NotAFrame (reading_by_lem r))
-event_by_lem event.StartTooLong = refl
-event_by_lem event.FrameStartTooLong = refl
-event_by_lem event.ByteStartNotHigh = refl
-event_by_lem event.ByteStartNotLow = refl
-event_by_lem event.EndNotLow = refl
-event_by_lem event.EndNotHigh = refl
+unfolding event_by
+event_by_lem None = refl
+event_by_lem (Some (Ok heard)) = refl
+event_by_lem (Some (Err error)) = ap (λ (x : WireError). Some (Err x)) (error_by_lem error)
 
 listening_by : Told → Listening
 listening_by t =
-    cond (eqb t.refusal 23) listening.NotSound (cond (eqb t.refusal 36) listening.MemoryTooShort (listening.Heard (event_by t.event)))
+    cond (eqb t.refusal 23) (Err listening.NotSound) (cond (eqb t.refusal 36) (Err listening.MemoryTooShort) (Ok (event_by t.event)))
 
 listening_by_lem : (r : Listening) → listening_by (told r) ≡ r
 unfolding listening_by
-listening_by_lem (listening.Heard e) = ap listening.Heard (event_by_lem e)
-listening_by_lem listening.NotSound = refl
-listening_by_lem listening.MemoryTooShort = refl
+listening_by_lem (Ok e) = ap (λ (x : Event). Ok x) (event_by_lem e)
+listening_by_lem (Err listening.NotSound) = refl
+listening_by_lem (Err listening.MemoryTooShort) = refl
 
 pub listen_one : ListenOne
 listen_one reader samples before after after' r s hr hs =
-    let answer : r.answer ≡ s.answer =
-    sym (listening_by_lem r.answer) ∙ ap listening_by (hr.answers ∙ sym hs.answers) ∙ listening_by_lem s.answer in
+    let answer : r.answer ≡ s.answer = one_answer told listening_by listening_by_lem r.answer s.answer hr.answers hs.answers in
     let taken : r.taken ≡ s.taken = hr.takes ∙ sym hs.takes in
     let next : r.reader ≡ s.reader = hr.leaves ∙ sym hs.leaves in (
       ap (λ (x : Listening). record { answer = x; taken = r.taken; reader = r.reader }) answer
@@ -86,21 +95,20 @@ listen_one reader samples before after after' r s hr hs =
     )
 
 opening_by : ℕ → Opening
-opening_by zero = opened.Opened
-opening_by (suc n) = opened.NotAChannel
+opening_by zero = Ok tt
+opening_by (suc n) = Err (record {})
 
 opening_by_lem : (r : Opening) → opening_by (opening.told r) ≡ r
 unfolding opening_by
-opening_by_lem opened.Opened = refl
-opening_by_lem opened.NotAChannel = refl
+opening_by_lem (Ok opened) = refl
+opening_by_lem (Err refusal) = refl
 
 pub open_one : OpenOne
 open_one channel r s hr hs =
-    let answer : r.answer ≡ s.answer =
-    sym (opening_by_lem r.answer) ∙ ap opening_by (hr.answers ∙ sym hs.answers) ∙ opening_by_lem s.answer in
-    let reader : r.reader ≡ s.reader = hr.leaves ∙ sym hs.leaves in
-    ap (λ (x : Opening). record { answer = x; reader = r.reader }) answer
-    ∙ ap (λ (x : Reader). record { answer = s.answer; reader = x }) reader
+    let answer : r.answer ≡ s.answer = one_answer opening.told opening_by opening_by_lem r.answer s.answer hr.answers hs.answers in
+    let state : r.state ≡ s.state = hr.leaves ∙ sym hs.leaves in
+    ap (λ (x : Opening). record { answer = x; state = r.state }) answer
+    ∙ ap (λ (x : Reader). record { answer = s.answer; state = x }) state
 
 -- ---- in order
 

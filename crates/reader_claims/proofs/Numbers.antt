@@ -24,12 +24,11 @@ use Rattle.frame.specs.Read as read
 use Rattle.wire_reader.specs.declared.phase.Phase.{Phase}
 use Rattle.wire_reader.specs.declared.phase.Phase.TheVariants.{Waiting, Start, FrameStart, ByteStart, ByteStartLow, Byte, End, EndHigh}
 use Rattle.wire_reader.specs.declared.reader.Reader.{Reader}
-use Rattle.wire_reader.specs.declared.opening.Opened.{Opened}
 use Rattle.wire_reader.specs.declared.listening.Listened.{Listened}
 use Rattle.wire_reader.specs.Decoder.{Told, nothing, frame, wrong, Place, Decoded, moved, entered, failed, without, header_wrong, checksums_of, complete, behind_byte, judged, decoded, is_data, counted}
 use Rattle.wire_reader.specs.Reader.{State, fresh, is_idle, kept, strobed, ticked, step, Run, noted, run, Piece, or_else, piece, state_of, reader_of, fresh_reader, no_reader}
 use Rattle.wire_reader.specs.Sound.{slack_of}
-use Rattle.wire_reader.specs.Opening.{opening_refusals, OpenSays}
+use Rattle.wire_reader.specs.Opening.{Opened, opening_refusals, OpenSays}
 use Rattle.wire_reader.specs.Listening as listening
 use Rattle.wire_reader.specs.Listening.{is_high, number_in, heard, refusal, ListenSays}
 use Rattle.wire_reader.proofs.PhaseLaws.{Fine}
@@ -195,34 +194,34 @@ piece_right channel s (x ∷ l) h =
     or_right (step channel s x).told next (piece channel next l) (step_good channel s x h).0
     (piece_right channel next l (stays_reached channel s x h))
 
-opened_reached : (channel : ℕ) (o : Opened) (memory : List ℕ) → OpenSays channel o → refusal o.reader memory ≡ 0
-    → Reached o.reader.channel (state_of o.reader memory)
+opened_reached : (channel : ℕ) (o : Opened) (memory : List ℕ) → OpenSays channel o → refusal o.state memory ≡ 0
+    → Reached o.state.channel (state_of o.state memory)
 opened_reached channel o memory h e =
     record {
-      ready = accepted_ready o.reader memory e;
-      gathered = subst (λ (p : Phase). Gathered p (take o.reader.count memory)) (sym waits) tt;
+      ready = accepted_ready o.state memory e;
+      gathered = subst (λ (p : Phase). Gathered p (take o.state.count memory)) (sym waits) tt;
     }
   where
     by : (n : ℕ) → (if_accepted n (fresh_reader (channel_of channel)) no_reader).phase ≡ Waiting
     by zero = refl
     by (suc n) = refl
 
-    waits : o.reader.phase ≡ Waiting
+    waits : o.state.phase ≡ Waiting
     waits = ap (λ (r : Reader). r.phase) h.leaves ∙ by (first (opening_refusals channel))
 
 first_right : (channel : ℕ) (o : Opened) (samples before after : List ℕ) (r : Listened) → OpenSays channel o
-    → ListenSays o.reader samples before after r → told_right (listening.told r.answer).event ≡ true
-first_right channel o samples before after r opens h = by (refusal o.reader before) refl
+    → ListenSays o.state samples before after r → told_right (listening.told r.answer).event ≡ true
+first_right channel o samples before after r opens h = by (refusal o.state before) refl
   where
-    event-is : (listening.told r.answer).event ≡ if_accepted (refusal o.reader before) (heard o.reader samples before).told nothing
+    event-is : (listening.told r.answer).event ≡ if_accepted (refusal o.state before) (heard o.state samples before).told nothing
     event-is = ap (λ (t : listening.Told). t.event) h.answers
 
-    by : (n : ℕ) → refusal o.reader before ≡ n → told_right (listening.told r.answer).event ≡ true
+    by : (n : ℕ) → refusal o.state before ≡ n → told_right (listening.told r.answer).event ≡ true
     by zero z =
         ap told_right (event-is ∙ if_accepted_lem _ _ _ z)
-        ∙ piece_right o.reader.channel (state_of o.reader before) (map is_high samples) (opened_reached channel o before opens z)
+        ∙ piece_right o.state.channel (state_of o.state before) (map is_high samples) (opened_reached channel o before opens z)
     by (suc n) z =
-        let some : refusal o.reader before ≡ 0 → ⊥ = λ y. omega arith in
+        let some : refusal o.state before ≡ 0 → ⊥ = λ y. omega arith in
         ap told_right (event-is ∙ if_refused _ _ _ some)
 
 number_right : (t : Told) → told_right t ≡ true → is_one_of (number_in t) (0 ∷ error_numbers) ≡ true
@@ -232,6 +231,6 @@ number_right (frame header size since) h = refl
 number_right (wrong told) h = true_right (eqb told.number 0) (is_one_of told.number error_numbers) h
 
 pub first_number : (channel : ℕ) (o : Opened) (samples before after : List ℕ) (r : Listened) → OpenSays channel o
-    → ListenSays o.reader samples before after r → is_one_of (number_in (listening.told r.answer).event) (0 ∷ error_numbers) ≡ true
+    → ListenSays o.state samples before after r → is_one_of (number_in (listening.told r.answer).event) (0 ∷ error_numbers) ≡ true
 first_number channel o samples before after r opens h =
     number_right (listening.told r.answer).event (first_right channel o samples before after r opens h)

@@ -22,10 +22,10 @@ use Rattle.reader_claims.proofs.Kept.{Ready, stays_ready, piece_keeps, run_keeps
 pub open_sound : OpenSound
 open_sound channel r h = by (not_a_channel channel) refl
   where
-    given : (n : ℕ) → first (opening_refusals channel) ≡ n → r.reader ≡ if_accepted n (fresh_reader (channel_of channel)) no_reader
+    given : (n : ℕ) → first (opening_refusals channel) ≡ n → r.state ≡ if_accepted n (fresh_reader (channel_of channel)) no_reader
     given n e = h.leaves ∙ ap (λ (k : ℕ). if_accepted k (fresh_reader (channel_of channel)) no_reader) e
 
-    by : (b : Bool) → not_a_channel channel ≡ b → sound r.reader ≡ not (not_a_channel channel)
+    by : (b : Bool) → not_a_channel channel ≡ b → sound r.state ≡ not (not_a_channel channel)
     by true e = ap sound (given 1 (first_at start e)) ∙ sym (ap not e)
     by false e = ap sound (given 0 (first_none_left (passed e))) ∙ sym (ap not e)
 

@@ -4,14 +4,13 @@
 use Rattle.std.specs.Prelude.{ℕ, ◌≡◌, Bool, true, List, map}
 use Rattle.refusal.specs.Refusal.{InOrder}
 use Rattle.wire_reader.specs.declared.reader.Reader.{Reader}
-use Rattle.wire_reader.specs.declared.opening.Opened.{Opened}
 use Rattle.wire_reader.specs.declared.listening.Listened.{Listened}
 use Rattle.wire_reader.specs.Opening as opening
 use Rattle.wire_reader.specs.Listening.{is_high, told, listen_refusals, ListenSays}
 
 -- Any two results that the statement allows are equal.
 abbrev pub OpenOne : Type 0
-OpenOne = (channel : ℕ) (r s : Opened) → opening.OpenSays channel r → opening.OpenSays channel s → r ≡ s
+OpenOne = (channel : ℕ) (r s : opening.Opened) → opening.OpenSays channel r → opening.OpenSays channel s → r ≡ s
 
 abbrev pub ListenOne : Type 0
 ListenOne =
@@ -21,7 +20,7 @@ ListenOne =
 
 -- The number is the first of the order whose condition holds.
 abbrev pub OpenInOrder : Type 0
-OpenInOrder = (channel : ℕ) (r : Opened) → opening.OpenSays channel r → InOrder (opening.opening_refusals channel) (opening.told r.answer)
+OpenInOrder = (channel : ℕ) (r : opening.Opened) → opening.OpenSays channel r → InOrder (opening.opening_refusals channel) (opening.told r.answer)
 
 abbrev pub ListenInOrder : Type 0
 ListenInOrder =

@@ -4,15 +4,14 @@ use Rattle.base_types.specs.declared.channel.Channel.{Channel}
 use Rattle.base_types.specs.Channel.{not_a_channel}
 use Rattle.header.specs.Layout.{longest_frame}
 use Rattle.wire_reader.specs.declared.reader.Reader.{Reader}
-use Rattle.wire_reader.specs.declared.opening.Opened.{Opened}
 use Rattle.wire_reader.specs.declared.listening.Listened.{Listened}
 use Rattle.wire_reader.specs.Reader.{fresh, run, reader_of}
 use Rattle.wire_reader.specs.Sound.{sound}
-use Rattle.wire_reader.specs.Opening.{OpenSays}
+use Rattle.wire_reader.specs.Opening.{Opened, OpenSays}
 use Rattle.wire_reader.specs.Listening.{ListenSays}
 
 abbrev pub OpenSound : Type 0
-OpenSound = (channel : ℕ) (r : Opened) → OpenSays channel r → sound r.reader ≡ not (not_a_channel channel)
+OpenSound = (channel : ℕ) (r : Opened) → OpenSays channel r → sound r.state ≡ not (not_a_channel channel)
 
 -- Listening makes no reader unsound, and none sound.
 abbrev pub ListenSound : Type 0

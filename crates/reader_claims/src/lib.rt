@@ -2,54 +2,49 @@
 // witnesses: short functions over the entries, proved from their contracts alone.
 #![tactic(auto)]
 
-ghost use Rattle.std.specs.Prelude.{◌≡◌, true, not, ◌∷◌, ◌<◌};
-ghost use Rattle.division.specs.Bits.{bit as bits_bit};
+ghost use Rattle.std.specs.Prelude.{◌≡◌, true, not, ◌∷◌};
 ghost use Rattle.base_types.specs.Channel.{not_a_channel};
 ghost use Rattle.wire_reader.specs.Sound.{sound};
 ghost use Rattle.wire_reader.specs.Listening.{told_by, ListenSays};
 ghost use Rattle.reader_claims.specs.Answers.{NumberTold, Alike};
 ghost use Rattle.reader_claims.specs.Checksums.{ErrorTold};
-ghost use Rattle.reader_claims.specs.Given.{is_frame};
 ghost use Rattle.reader_claims.specs.Numbers.{is_one_of, error_numbers};
 ghost use Rattle.reader_claims.specs.Playing.{PlayedSays};
 
-use frame::Reading;
+use refusal::Answer;
 use wire_reader::{Event, Listened, Reader};
 
 // The number that listening gives: the first of its order whose condition holds. With any but 0 the reader and the memory are as they were.
+// (A number: what is claimed here is of the number, the reader and the memory.)
 pub fn listen_number(reader: Reader, samples: &[u8], memory: &mut [u8]) -> u8
     ensures { NumberTold reader memory.old memory.new result }
 {
-    let heard = wire_reader::listen(reader, samples, memory);
-    let answer = heard.answer;
-    answer.number()
+    wire_reader::listen(reader, samples, memory).answer.number()
 }
 
 // What was heard: with error 4 or 8 two checksums that differ, and 0 for both with any other.
 pub fn checksums_heard(reader: Reader, samples: &[u8], memory: &mut [u8]) -> Event
     ensures { ErrorTold (told_by result) }
 {
-    let heard = wire_reader::listen(reader, samples, memory);
-    let answer = heard.answer;
-    answer.event()
+    wire_reader::listen(reader, samples, memory)
+        .answer
+        .unwrap_or(None)
 }
 
 // Whether the reader that is opened is sound: exactly where it is not refused.
 pub fn sound_when_opened(channel: u8) -> bool
     ensures { result ≡ not (not_a_channel channel) }
 {
-    let opened = wire_reader::open_reader(channel);
-    let reader = opened.reader;
-    reader.is_sound()
+    wire_reader::open_reader(channel).state.is_sound()
 }
 
 // Whether the reader is sound behind the samples: exactly where it was before.
 pub fn sound_behind(reader: Reader, samples: &[u8], memory: &mut [u8]) -> bool
     ensures { result ≡ sound reader }
 {
-    let heard = wire_reader::listen(reader, samples, memory);
-    let next = heard.reader;
-    next.is_sound()
+    wire_reader::listen(reader, samples, memory)
+        .reader
+        .is_sound()
 }
 
 // Listens to samples cut in two, and meets the statement of listening to all of them in one piece.
@@ -59,20 +54,18 @@ pub fn listen_in_two(reader: Reader, samples: &[u8], cut: usize, memory: &mut [u
     if samples.len() < cut {
         return wire_reader::listen(reader, samples, memory);
     }
-    let first = wire_reader::listen(reader, &samples[0..cut], memory);
-    let answer = first.answer;
-    let event = answer.event();
-    if !((answer.number() == 0) & event.is_nothing()) {
+    let first = wire_reader::listen(reader, &samples[..cut], memory);
+    let Ok(event) = first.answer else {
+        return first;
+    };
+    if event.is_some() {
         return first;
     }
-    let next = first.reader;
-    let second = wire_reader::listen(next, &samples[cut..], memory);
-    let answer = second.answer;
-    let last = second.reader;
+    let second = wire_reader::listen(first.reader, &samples[cut..], memory);
     Listened {
-        answer,
+        answer: second.answer,
         taken: first.taken + second.taken,
-        reader: last,
+        reader: second.reader,
     }
 }
 
@@ -80,20 +73,14 @@ pub fn listen_in_two(reader: Reader, samples: &[u8], cut: usize, memory: &mut [u
 pub fn given_again(reader: Reader, samples: &[u8], memory: &mut [u8]) -> bool
     ensures { result ≡ true }
 {
-    let channel = reader.channel;
     let heard = wire_reader::listen(reader, samples, memory);
-    let answer = heard.answer;
-    let Event::Frame(told) = answer.event() else {
+    let Some(Ok(told)) = heard.answer.unwrap_or(None) else {
         return true;
     };
-    let size = told.size;
-    if memory.len() < size {
+    if memory.len() < told.size {
         return false;
     }
-    let Reading::Accepted(_) = frame::read_on(channel, &memory[0..size]) else {
-        return false;
-    };
-    true
+    frame::read_on(reader.channel, &memory[..told.size]).is_ok()
 }
 
 // Whether two calls that differ in the bytes of high samples alone, each with its own memory, take as many samples. They leave the same memory
@@ -113,15 +100,16 @@ pub fn heard_alike(
 }
 
 // The number of the first event of a reader that is opened: that of an error, or 0 where nothing or a frame is told, or a call is refused.
+// (A number, since the claim lists 01's numbers.)
 pub fn first_number(channel: u8, samples: &[u8], memory: &mut [u8]) -> u8
     ensures { is_one_of result (0 ∷ error_numbers) ≡ true }
 {
     let opened = wire_reader::open_reader(channel);
-    let reader = opened.reader;
-    let heard = wire_reader::listen(reader, samples, memory);
-    let answer = heard.answer;
-    let event = answer.event();
-    event.number()
+    let heard = wire_reader::listen(opened.state, samples, memory);
+    match heard.answer.unwrap_or(None) {
+        Some(told) => told.number(),
+        None => 0,
+    }
 }
 
 // What came of samples that were played to their end.
@@ -140,49 +128,25 @@ pub fn play(reader: Reader, samples: &[u8], memory: &mut [u8]) -> Played
     let mut at = 0;
     let mut frames = 0;
     let mut errors = 0;
+    // (No `for`: a call takes as many samples as it likes.)
     while at < samples.len() {
         let heard = wire_reader::listen(state, &samples[at..], memory);
-        let answer = heard.answer;
-        let event = answer.event();
-        let next = heard.reader;
         at += heard.taken;
-        state = next;
-        if event.is_nothing() {
+        state = heard.reader;
+        let Some(told) = heard.answer.unwrap_or(None) else {
             return Played {
                 frames,
                 errors,
                 reader: state,
             };
-        }
-        let is_frame = is_frame(event);
-        frames += one(is_frame);
-        errors += one(!is_frame);
+        };
+        let is_frame = told.is_ok();
+        frames += usize::from(is_frame);
+        errors += usize::from(!is_frame);
     }
     Played {
         frames,
         errors,
         reader: state,
     }
-}
-
-fn is_frame(event: Event) -> bool
-    ensures { result ≡ is_frame (told_by event) }
-{
-    match event {
-        Event::Nothing => false,
-        Event::Frame(_) => true,
-        Event::NotAFrame(_) => false,
-        Event::StartTooLong => false,
-        Event::FrameStartTooLong => false,
-        Event::ByteStartNotHigh => false,
-        Event::ByteStartNotLow => false,
-        Event::EndNotLow => false,
-        Event::EndNotHigh => false,
-    }
-}
-
-fn one(set: bool) -> usize
-    ensures { (result ≡ bits_bit set) × (result < 2) }
-{
-    if set { 1 } else { 0 }
 }

@@ -1,124 +1,89 @@
-// The commands on the clock: loading, opening a cycle, measuring and closing. Each is handed the item behind its letter, writes
-// its line and answers with the clock state that is held from then on.
-use crate::item::Item;
-use crate::{clock_states, item, line, script, sheet};
-use base_types::{Cycle, Microtick};
-use clock::{Clock, CycleOpening, Loading};
-use closing::Closing;
-use measuring::Measuring;
+// The commands on the clock: loading, opening a cycle, measuring and closing. Each writes its line, and holds the clock state that comes back.
+use crate::script::{Script, ScriptError};
+use crate::{line, sheet};
+use base_types::{Cycle, Microtick, SignedMicrotick};
+use clock::Clock;
+use closing::Report;
+use refusal::Answer;
+use settings::SettingOutOfRange;
 use slot::Status;
+use std::io::Read;
 
-// The place of the mark in an item of `L`, behind the sheet.
-const MARK: usize = sheet::SIZE;
-
-// The places of an item of `M` and of `C`. An item of `O` is its cycle alone.
-const CYCLE: usize = 0;
-
-const OBSERVED: usize = 0;
-
-const ACTION_POINT: usize = OBSERVED + 4;
-
-const OFFSET_CONTROL: usize = 0;
-
-const RATE_CONTROL: usize = OFFSET_CONTROL + 1;
-
-// How many bytes they have.
-pub const LOAD_SIZE: usize = MARK + sheet::MARK_SIZE;
-
-pub const OPEN_SIZE: usize = CYCLE + 1;
-
-pub const MEASURE_SIZE: usize = ACTION_POINT + 4;
-
-pub const CLOSE_SIZE: usize = RATE_CONTROL + 1;
-
-// Plays the command on the clock that has this letter; any other leaves the clock state as it is.
-pub fn play(to: &impl Print, letter: u8, item: Item, clock: Clock, status: Status) -> Clock {
-    match letter {
-        b'L' => load(to, item),
-        b'O' => open_cycle(to, item, clock),
-        b'M' => measure(to, item, clock, status),
-        b'C' => close_cycle(to, item, clock),
-        b'K' => clock_states::put(to, item),
-        _ => clock,
-    }
+// `L`, with settings and mark: `load N FIELD`
+pub fn load(
+    script: &mut Script<impl Read>,
+    to: &impl Print,
+    clock: &mut Clock,
+) -> Result<(), ScriptError> {
+    let mut settings = sheet::take(script)?;
+    settings.mark = sheet::take_mark(script)?;
+    let loaded = clock::load(settings);
+    *clock = loaded.state;
+    let field = match loaded.answer {
+        Ok(()) => 0,
+        Err(SettingOutOfRange(field)) => field,
+    };
+    line::write(to, format_args!("load {} {field}", loaded.answer.number()));
+    Ok(())
 }
 
-// `L`: settings, mark.
-fn load(to: &impl Print, item: Item) -> Clock {
-    let loaded = clock::load(sheet::of(item, MARK));
-    let answer = loaded.answer;
-    answer_loading(to, answer);
-    loaded.clock
+// `O`, with a cycle: `open N`
+pub fn open_cycle(
+    script: &mut Script<impl Read>,
+    to: &impl Print,
+    clock: &mut Clock,
+) -> Result<(), ScriptError> {
+    let cycle = Cycle(script.u8()?);
+    let opened = clock::open_cycle(*clock, cycle);
+    *clock = opened.state;
+    line::write(to, format_args!("open {}", opened.answer.number()));
+    Ok(())
 }
 
-// `load N FIELD`
-fn answer_loading(to: &impl Print, answer: Loading) {
-    let numbers = [answer.number() as u64, answer.field() as u64];
-    line::write(to, b"load", &numbers);
+// `M`, with observed time and action point: `measure N DEVIATION`. The frame is that of the status that is held.
+pub fn measure(
+    script: &mut Script<impl Read>,
+    to: &impl Print,
+    clock: &mut Clock,
+    status: Status,
+) -> Result<(), ScriptError> {
+    let observed = Microtick(script.u32()?);
+    let action_point = Microtick(script.u32()?);
+    let measured = measuring::measure(*clock, status, observed, action_point);
+    *clock = measured.state;
+    let deviation = measured.answer.unwrap_or(SignedMicrotick(0));
+    line::write(
+        to,
+        format_args!("measure {} {}", measured.answer.number(), deviation.0),
+    );
+    Ok(())
 }
 
-// `O`: cycle.
-fn open_cycle(to: &impl Print, item: Item, clock: Clock) -> Clock {
-    let opened = clock::open_cycle(clock, Cycle(item[CYCLE]));
-    let answer = opened.answer;
-    answer_opening(to, answer);
-    opened.clock
-}
-
-// `open N`
-fn answer_opening(to: &impl Print, answer: CycleOpening) {
-    let numbers = [answer.number() as u64];
-    line::write(to, b"open", &numbers);
-}
-
-// `M`: observed time, action point. The frame is that of the status that is held.
-fn measure(to: &impl Print, item: Item, clock: Clock, status: Status) -> Clock {
-    let observed = Microtick(item::long(item, OBSERVED));
-    let action_point = Microtick(item::long(item, ACTION_POINT));
-    let measured = measuring::measure(clock, status, observed, action_point);
-    let answer = measured.answer;
-    answer_measuring(to, answer);
-    measured.clock
-}
-
-// `measure N DEVIATION`
-fn answer_measuring(to: &impl Print, answer: Measuring) {
-    let deviation = answer.deviation();
-    let mut line = [0u8; line::ROOM];
-    let at = line::put(&mut line, 0, b"measure");
-    let at = line::decimal(&mut line, at, answer.number() as u64);
-    let at = line::signed(&mut line, at, deviation);
-    line::end(to, &mut line, at);
-}
-
-// `C`: offset control, rate control.
-fn close_cycle(to: &impl Print, item: Item, clock: Clock) -> Clock {
-    let offset_control = script::signed_byte(item[OFFSET_CONTROL]);
-    let rate_control = script::signed_byte(item[RATE_CONTROL]);
-    let closed = closing::close_cycle(clock, offset_control, rate_control);
-    let answer = closed.answer;
-    answer_closing(to, answer);
-    closed.clock
-}
-
-// `close N OFFSET RATE OM RM OL RL IDS MARK`
-fn answer_closing(to: &impl Print, answer: Closing) {
-    let report = answer.report();
-    let offset = report.offset;
-    let rate = report.rate;
-    let numbers = [
-        report.offset_missing as u64,
-        report.rate_missing as u64,
-        report.offset_limited as u64,
-        report.rate_limited as u64,
-        report.ids as u64,
-        report.mark.0 as u64,
-    ];
-    let mut line = [0u8; line::ROOM];
-    let at = line::put(&mut line, 0, b"close");
-    let at = line::decimal(&mut line, at, answer.number() as u64);
-    let at = line::signed(&mut line, at, offset);
-    let at = line::signed(&mut line, at, rate);
-    let at = line::decimals(&mut line, at, &numbers);
-    line::end(to, &mut line, at);
+// `C`, with offset control and rate control: `close N OFFSET RATE OM RM OL RL IDS MARK`
+pub fn close_cycle(
+    script: &mut Script<impl Read>,
+    to: &impl Print,
+    clock: &mut Clock,
+) -> Result<(), ScriptError> {
+    let offset_control = i32::from(script.i8()?);
+    let rate_control = i32::from(script.i8()?);
+    let closed = closing::close_cycle(*clock, offset_control, rate_control);
+    *clock = closed.state;
+    let report = closed.answer.unwrap_or(Report::NONE);
+    line::write(
+        to,
+        format_args!(
+            "close {} {} {} {} {} {} {} {} {}",
+            closed.answer.number(),
+            report.offset.0,
+            report.rate.0,
+            u8::from(report.offset_missing),
+            u8::from(report.rate_missing),
+            u8::from(report.offset_limited),
+            u8::from(report.rate_limited),
+            report.ids,
+            report.mark.0
+        ),
+    );
+    Ok(())
 }

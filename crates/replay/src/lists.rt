@@ -1,153 +1,104 @@
 // A sync list in a script, and in a line.
-ghost use Rattle.std.specs.Prelude.{◌+◌, ◌≤◌};
-ghost use Rattle.replay.specs.Items.{mark_size, row_size, list_size, pair_size, pairs_size, item_room};
-
-use crate::item::Item;
-use crate::{item, line, script, sheet};
+use crate::flags::{byte_of, flags_of};
+use crate::line::Shown;
+use crate::script::{Script, ScriptError};
+use crate::sheet;
 use base_types::{SignedMicrotick, Slot};
 use settings::Mark;
-use sync_list::{Measured, Measurement, ROWS, Row, SyncList};
+use std::fmt;
+use std::fmt::{Display, Formatter};
+use std::io::Read;
+use sync_list::{Measurement, ROWS, Row, SyncList};
 
-// The places of a row, behind its ID.
-const SEEN: usize = 2;
-
-const ON_A: usize = SEEN + 1;
-
-const ON_B: usize = ON_A + 4;
-
-// How many bytes a row has, and a list: a count and the rows.
-const ROW_SIZE: usize = ON_B + 4;
-
-pub const SIZE: usize = 1 + ROWS * ROW_SIZE;
-
-// How many bytes the marks of a row have, a pair, and those of all its rows.
-const PAIR_SIZE: usize = 2 * sheet::MARK_SIZE;
-
-pub const PAIRS_SIZE: usize = ROWS * PAIR_SIZE;
-
-// The list at this place of an item: a count and the rows; the pairs of its marks are at another. A row behind the count is taken as it
-// stands; the list itself knows that it is not listed.
-pub(crate) fn of(item: Item, at: usize, pairs: usize) -> SyncList
-    requires { (at + list_size ≤ item_room) × (pairs + pairs_size ≤ item_room) }
-{
+// A count and the rows; the marks of its measurements stand further back. A row behind the count is taken as it stands; the list itself
+// knows that it is not listed.
+pub fn take(script: &mut Script<impl Read>) -> Result<SyncList, ScriptError> {
+    let count = usize::from(script.u8()?);
     let mut rows = [Row::blank(Slot(0)); ROWS];
-    let mut i: usize = 0;
-    while i < ROWS {
-        let row = row_of(item, at + 1 + i * ROW_SIZE, pairs + i * PAIR_SIZE);
-        rows[i] = row;
-        i += 1;
+    for row in &mut rows {
+        *row = take_row(script)?;
     }
-    SyncList {
-        rows,
-        count: item[at] as usize,
-    }
+    Ok(SyncList { rows, count })
 }
 
-// ID, seen, deviation on A, deviation on B, and at another place the marks of A and B. A bit of seen says whether deviation and mark of its
-// channel are looked at, A's the lowest; the bits above the two are not looked at.
-fn row_of(item: Item, at: usize, pair: usize) -> Row
-    requires { (at + row_size ≤ item_room) × (pair + pair_size ≤ item_room) }
-{
-    let seen = item[at + SEEN];
-    Row {
-        id: Slot(item::number(item, at)),
-        on_a: measured_of(seen % 2 == 1, item, at + ON_A, pair),
-        on_b: measured_of(seen / 2 % 2 == 1, item, at + ON_B, pair + sheet::MARK_SIZE),
-    }
-}
-
-// What was measured on a channel, if anything was: the deviation and the mark at these places.
-fn measured_of(is_seen: bool, item: Item, deviation: usize, mark: usize) -> Measured
-    requires { (deviation + 4 ≤ item_room) × (mark + mark_size ≤ item_room) }
-{
-    if !is_seen {
-        return Measured::Nothing;
-    }
-    let bits = item::long(item, deviation);
-    Measured::Is(Measurement {
-        deviation: SignedMicrotick(script::signed(bits)),
-        mark: Mark(item::long(item, mark)),
+// ID, seen, deviation on A, deviation on B. A bit of seen says whether the deviation of its channel, and its mark, are looked at, A's the
+// lowest; the bits above the two are not looked at.
+fn take_row(script: &mut Script<impl Read>) -> Result<Row, ScriptError> {
+    let id = Slot(script.u16()?);
+    let [on_a, on_b, ..] = flags_of(script.u8()?);
+    Ok(Row {
+        id,
+        on_a: on_a.then_some(take_unmarked(script)?),
+        on_b: on_b.then_some(take_unmarked(script)?),
     })
 }
 
-// What of each listed row is put.
-#[derive(Clone, Copy)]
-enum Part {
-    // `ID SEEN A B`
-    Measurements,
-    // `A B`
-    Marks,
+fn take_unmarked(script: &mut Script<impl Read>) -> Result<Measurement, ScriptError> {
+    Ok(Measurement {
+        deviation: SignedMicrotick(script.i32()?),
+        mark: Mark(0),
+    })
 }
 
-// Puts the count and the listed rows.
-pub fn put(line: &mut [u8; line::ROOM], at: usize, list: SyncList) -> usize {
-    let at = line::decimal(line, at, list.count as u64);
-    put_rows(line, at, list, Part::Measurements)
+// The marks of all rows, a pair for each: A's and B's.
+pub fn take_marks(script: &mut Script<impl Read>, list: &mut SyncList) -> Result<(), ScriptError> {
+    for row in &mut list.rows {
+        row.on_a = marked(row.on_a, sheet::take_mark(script)?);
+        row.on_b = marked(row.on_b, sheet::take_mark(script)?);
+    }
+    Ok(())
 }
 
-// Puts the marks of the listed rows.
-pub fn put_pairs(line: &mut [u8; line::ROOM], at: usize, list: SyncList) -> usize {
-    put_rows(line, at, list, Part::Marks)
+fn marked(measured: Option<Measurement>, mark: Mark) -> Option<Measurement> {
+    let deviation = measured?.deviation;
+    Some(Measurement { deviation, mark })
 }
 
-// Puts a part of each listed row. (The loop ends at the rows, and not at the count, which may be above them.)
-fn put_rows(line: &mut [u8; line::ROOM], at: usize, list: SyncList, part: Part) -> usize {
-    let rows = list.rows;
-    let mut at = at;
-    let mut i: usize = 0;
-    while i < ROWS {
-        if list.count <= i {
-            return at;
+// ID SEEN A B
+impl Display for Shown<Row> {
+    fn fmt<W: fmt::Write>(&self, f: &mut Formatter<W>) -> fmt::Result {
+        let row = self.0;
+        let seen = byte_of(&[row.on_a.is_some(), row.on_b.is_some()]);
+        write!(
+            f,
+            "{} {seen} {} {}",
+            row.id.0,
+            deviation_of(row.on_a),
+            deviation_of(row.on_b)
+        )
+    }
+}
+
+fn deviation_of(measured: Option<Measurement>) -> i32 {
+    measured.map_or(0, |measurement| measurement.deviation.0)
+}
+
+fn mark_of(measured: Option<Measurement>) -> u32 {
+    measured.map_or(0, |measurement| measurement.mark.0)
+}
+
+// n (ID SEEN A B)*n, with the listed rows.
+impl Display for Shown<SyncList> {
+    fn fmt<W: fmt::Write>(&self, f: &mut Formatter<W>) -> fmt::Result {
+        let list = self.0;
+        write!(f, "{}", list.count)?;
+        for row in list.listed() {
+            write!(f, " {}", Shown(*row))?;
         }
-        let row = rows[i];
-        at = put_part(line, at, row, part);
-        i += 1;
-    }
-    at
-}
-
-fn put_part(line: &mut [u8; line::ROOM], at: usize, row: Row, part: Part) -> usize {
-    match part {
-        Part::Measurements => put_row(line, at, row),
-        Part::Marks => put_pair(line, at, row),
+        Ok(())
     }
 }
 
-// Puts `ID SEEN A B`.
-fn put_row(line: &mut [u8; line::ROOM], at: usize, row: Row) -> usize {
-    let on_a = row.on_a;
-    let on_b = row.on_b;
-    let at = line::decimal(line, at, row.id.0 as u64);
-    let at = line::decimal(line, at, seen_of(on_a, on_b));
-    let at = line::signed(line, at, deviation_of(on_a));
-    line::signed(line, at, deviation_of(on_b))
-}
+// The marks of the listed rows: (A B)*n, with a space before each.
+#[derive(Clone, Copy)]
+pub struct Marks(pub SyncList);
 
-// The channels as bits, A's the lowest. (`% 2` tells the prover that a flag is 0 or 1.)
-fn seen_of(on_a: Measured, on_b: Measured) -> u64 {
-    on_a.is_measured() as u64 % 2 + on_b.is_measured() as u64 % 2 * 2
-}
-
-// The deviation, 0 where nothing was measured.
-fn deviation_of(measured: Measured) -> SignedMicrotick {
-    let Measured::Is(measurement) = measured else {
-        return SignedMicrotick(0);
-    };
-    measurement.deviation
-}
-
-// Puts `A B`.
-fn put_pair(line: &mut [u8; line::ROOM], at: usize, row: Row) -> usize {
-    let on_a = row.on_a;
-    let on_b = row.on_b;
-    let numbers = [mark_of(on_a), mark_of(on_b)];
-    line::decimals(line, at, &numbers)
-}
-
-// The mark, 0 where nothing was measured.
-fn mark_of(measured: Measured) -> u64 {
-    let Measured::Is(measurement) = measured else {
-        return 0;
-    };
-    measurement.mark.0 as u64
+impl Display for Marks {
+    fn fmt<W: fmt::Write>(&self, f: &mut Formatter<W>) -> fmt::Result {
+        let list = self.0;
+        for row in list.listed() {
+            write!(f, " {} {}", mark_of(row.on_a), mark_of(row.on_b))?;
+        }
+        Ok(())
+    }
 }

@@ -4,9 +4,9 @@
 
 mod clock_states;
 mod clocks;
+mod flags;
 mod frames;
 mod held;
-mod item;
 mod line;
 mod lists;
 mod pieces;
@@ -17,81 +17,58 @@ mod slots;
 mod statuses;
 
 use held::Held;
-use item::Item;
-use script::Start;
+use script::{Script, ScriptError};
 use std::io::Read;
 
-// Plays the command with this letter: what is held from then on.
-fn play(from: &mut impl Read, to: &impl Print, letter: u8, held: Held) -> Held {
-    let taken = item::take(from, letter);
-    if taken.is_script_error {
-        return held.after(false);
-    }
-    let item = taken.item;
-    play_item(from, to, letter, item, held)
-}
-
-// Plays the command whose item has been taken. An unknown letter is a script error.
-fn play_item(from: &mut impl Read, to: &impl Print, letter: u8, item: Item, held: Held) -> Held {
+// Plays the command with this letter. Each is lent what it may change, and no more, and takes all that stands behind its letter before it is
+// played, so that with a script error it does nothing. An unknown letter is one.
+// (A letter is matched where it is taken: an enum of letters would be this match once more.)
+fn play(
+    script: &mut Script<impl Read>,
+    to: &impl Print,
+    letter: u8,
+    held: &mut Held,
+) -> Result<(), ScriptError> {
     match letter {
-        b'F' | b'R' | b'W' | b'P' | b'E' => held.after(frames::play(from, to, letter, item)),
-        b'L' | b'O' | b'M' | b'C' | b'K' => held.with_clock(clocks::play(
-            to,
-            letter,
-            item,
-            held.clock,
-            held.status,
-        )),
-        b'S' | b'B' | b'X' | b'T' => held.with_status(slots::play(to, letter, item, held.status)),
-        b'A' => slots::arrived(from, to, held),
-        b'D' => show(to, held),
-        b'H' | b'V' => play_reader(to, letter, item, held),
-        b'Y' => pieces::listen(from, to, held),
-        b'Z' => show_reader(to, held),
-        _ => held.after(false),
+        b'F' => frames::checksum(script, to)?,
+        b'R' => frames::read(script, to)?,
+        b'W' => frames::write(script, to)?,
+        b'P' => frames::bench(script, to)?,
+        b'E' => frames::encode(script, to)?,
+        b'L' => clocks::load(script, to, &mut held.clock)?,
+        b'O' => clocks::open_cycle(script, to, &mut held.clock)?,
+        b'M' => clocks::measure(script, to, &mut held.clock, held.status)?,
+        b'C' => clocks::close_cycle(script, to, &mut held.clock)?,
+        b'K' => clock_states::put(script, to, &mut held.clock)?,
+        b'S' => slots::open(script, to, &mut held.status)?,
+        b'A' => slots::arrived(script, to, &mut held.status)?,
+        b'B' => slots::boundary(to, &mut held.status),
+        b'X' => slots::sent(to, &mut held.status),
+        b'T' => statuses::put(script, to, &mut held.status)?,
+        b'H' => readers::open(script, to, &mut held.reader)?,
+        b'V' => readers::put(script, to, &mut held.reader)?,
+        b'Y' => pieces::listen(script, to, held)?,
+        b'Z' => readers::show(to, held.reader, &held.memory),
+        b'D' => {
+            clock_states::show(to, held.clock);
+            statuses::show(to, held.status);
+        }
+        _ => return Err(ScriptError),
     }
-}
-
-// `H` and `V`, which leave the memory as it is.
-fn play_reader(to: &impl Print, letter: u8, item: Item, held: Held) -> Held {
-    let memory = held.memory;
-    held.with_reader(readers::play(to, letter, item, held.reader), memory)
-}
-
-// `D`. The clock's line stands before the status's.
-fn show(to: &impl Print, held: Held) -> Held {
-    clock_states::show(to, held.clock);
-    statuses::show(to, held.status);
-    held.after(true)
-}
-
-// `Z`
-fn show_reader(to: &impl Print, held: Held) -> Held {
-    let memory = held.memory;
-    readers::show(to, held.reader, &memory);
-    held.after(true)
-}
-
-// `script error at COMMAND`
-fn script_error(to: &impl Print, command: u64) {
-    let numbers = [command];
-    line::write(to, b"script error at", &numbers);
+    Ok(())
 }
 
 // A proved loop has to end, and nothing says that a script does. So the count of commands has an end, which no run reaches.
 fn main(rt: HostRuntime) {
-    let mut script = rt.stdin();
-    let mut held = Held::none();
-    let mut command = 0;
-    while command < u64::MAX {
-        let Start::Letter(letter) = script::take_letter(&mut script) else {
+    let mut script = Script::new(rt.stdin());
+    let mut held = Held::at_start();
+    for command in 0..u64::MAX {
+        let Some(letter) = script.letter() else {
             return;
         };
-        held = play(&mut script, &rt, letter, held);
-        if held.is_script_error {
-            script_error(&rt, command);
+        if play(&mut script, &rt, letter, &mut held).is_err() {
+            line::write(&rt, format_args!("script error at {command}"));
             return;
         }
-        command += 1;
     }
 }

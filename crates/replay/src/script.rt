@@ -1,128 +1,93 @@
 // The script: bytes and little-endian numbers, taken from standard input as they are asked for.
-ghost use Rattle.std.specs.Prelude.{◌≤◌, length};
+ghost use Rattle.std.specs.Prelude.{◌≤◌, IfOk};
 
+use base_types::NotAChannel;
 use std::io::Read;
 
 // The highest size and the highest room.
 pub const MOST: usize = 600;
 
-// What stands where a command may begin.
+// An end inside a command, or a part of one that is not as it must be.
 #[derive(Clone, Copy)]
-pub enum Start {
-    Letter(u8),
-    End,
-}
+pub struct ScriptError;
 
-// A size or room, 0 bytes where a script error stands in its place. (A struct: the prover keeps the bound on a field past the
-// test, and not that on what an enum holds.)
-#[derive(Clone, Copy)]
-pub struct Size {
-    pub is_script_error: bool,
-    pub bytes: usize,
-}
-
-const SCRIPT_ERROR: Size = Size {
-    is_script_error: true,
-    bytes: 0,
-};
-
-pub fn take_letter(from: &mut impl Read) -> Start {
-    let mut letter = [0u8; 1];
-    if !take(from, &mut letter) {
-        return Start::End;
+// A switch of a channel is its number, and another number is no switch.
+impl From<NotAChannel> for ScriptError {
+    fn from(_refusal: NotAChannel) -> ScriptError {
+        ScriptError
     }
-    Start::Letter(letter[0])
 }
 
-// Fills the bytes from the script, and says whether it had as many. A read that fails ends the script.
-pub fn take(from: &mut impl Read, bytes: &mut [u8]) -> bool {
-    let mut at = 0;
-    while at < bytes.len() {
-        let count = take_some(from, &mut bytes[at..]);
-        if count == 0 {
-            return false;
+#[derive(Drop)]
+pub struct Script<R> {
+    from: R,
+}
+
+impl<R: Read> Script<R> {
+    pub fn new(from: R) -> Script<R> {
+        Script { from }
+    }
+
+    // The letter of the next command, if there is one.
+    pub fn letter(&mut self) -> Option<u8> {
+        self.u8().ok()
+    }
+
+    pub fn u8(&mut self) -> Result<u8, ScriptError> {
+        Ok(u8::from_le_bytes(self.array()?))
+    }
+
+    pub fn u16(&mut self) -> Result<u16, ScriptError> {
+        Ok(u16::from_le_bytes(self.array()?))
+    }
+
+    pub fn u32(&mut self) -> Result<u32, ScriptError> {
+        Ok(u32::from_le_bytes(self.array()?))
+    }
+
+    pub fn i8(&mut self) -> Result<i8, ScriptError> {
+        Ok(i8::from_le_bytes(self.array()?))
+    }
+
+    pub fn i32(&mut self) -> Result<i32, ScriptError> {
+        Ok(i32::from_le_bytes(self.array()?))
+    }
+
+    pub fn switch(&mut self) -> Result<bool, ScriptError> {
+        match self.u8()? {
+            0 => Ok(false),
+            1 => Ok(true),
+            _ => Err(ScriptError),
         }
-        at += count;
     }
-    true
-}
 
-// Puts what the script has at hand into the front of the bytes, and answers how many those were: none at the end.
-fn take_some(from: &mut impl Read, bytes: &mut [u8]) -> usize
-    ensures { result ≤ length bytes.old }
-{
-    from.read(bytes).unwrap_or(0)
-}
+    // A size, a room or a count, which may be as high as `most`.
+    pub fn size(&mut self, most: usize) -> Result<usize, ScriptError>
+        ensures { IfOk result (λ size. size ≤ most) }
+    {
+        let size = usize::from(self.u16()?);
+        if most < size {
+            return Err(ScriptError);
+        }
+        Ok(size)
+    }
 
-// Takes a size or room. One above `most` is a script error.
-pub fn take_size(from: &mut impl Read, most: usize) -> Size
-    ensures { result.bytes ≤ most }
-{
-    let mut item = [0u8; 2];
-    if !take(from, &mut item) {
-        return SCRIPT_ERROR;
+    // A size, and as many bytes, which are put into the front of the space.
+    pub fn bytes<'a>(&mut self, space: &'a mut [u8]) -> Result<&'a [u8], ScriptError> {
+        let size = self.size(space.len())?;
+        let bytes = &mut space[..size];
+        self.fill(bytes)?;
+        Ok(bytes)
     }
-    let bytes = number(item[0], item[1]) as usize;
-    if most < bytes {
-        return SCRIPT_ERROR;
-    }
-    Size {
-        is_script_error: false,
-        bytes,
-    }
-}
 
-// Takes a size, and as many bytes into the front of the space. What the space cannot hold is a script error.
-pub fn take_bytes(from: &mut impl Read, space: &mut [u8]) -> Size
-    ensures { result.bytes ≤ length space.old }
-{
-    let size = take_size(from, space.len());
-    if size.is_script_error {
-        return SCRIPT_ERROR;
+    pub fn array<const N: usize>(&mut self) -> Result<[u8; N], ScriptError> {
+        let mut bytes = [0; N];
+        self.fill(&mut bytes)?;
+        Ok(bytes)
     }
-    let bytes = size.bytes;
-    if !take(from, &mut space[0..bytes]) {
-        return SCRIPT_ERROR;
-    }
-    size
-}
 
-// Takes a count of pairs, and as many pairs of bytes into the front of the space. What the space cannot hold is a script error.
-pub fn take_pairs(from: &mut impl Read, space: &mut [u8]) -> Size
-    ensures { result.bytes ≤ length space.old }
-{
-    let pairs = take_size(from, space.len() / 2);
-    if pairs.is_script_error {
-        return SCRIPT_ERROR;
+    // A read that fails ends the script.
+    fn fill(&mut self, bytes: &mut [u8]) -> Result<(), ScriptError> {
+        self.from.read_exact(bytes).map_err(|_| ScriptError)
     }
-    let bytes = 2 * pairs.bytes;
-    if !take(from, &mut space[0..bytes]) {
-        return SCRIPT_ERROR;
-    }
-    Size {
-        is_script_error: false,
-        bytes,
-    }
-}
-
-// The number that two bytes of the script make.
-pub fn number(low: u8, high: u8) -> u16 {
-    high as u16 * 256 + low as u16
-}
-
-// The signed number with these bits. Where they are those of a negative one, all of them are turned over for the cast, and back
-// again behind it: a cast takes no number that it would change.
-pub fn signed(bits: u32) -> i32 {
-    if bits < 0x8000_0000 {
-        return bits as i32;
-    }
-    !(!bits as i32)
-}
-
-// The signed number with these eight bits, of which the first is carried on to 32.
-pub fn signed_byte(bits: u8) -> i32 {
-    if bits < 128 {
-        return bits as i32;
-    }
-    signed(bits as u32 + 0xFFFF_FF00)
 }

@@ -1,1 +1,1 @@
-pub mod SheetLaws
+pub mod SheetWalk

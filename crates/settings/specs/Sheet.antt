@@ -1,9 +1,12 @@
 -- The settings sheet (01, "Settings sheet"): the fields by their names, the range of each, and the first field out of its range. The mark
 -- of a sheet (02, C-17) is no field: it has no range.
-use Rattle.std.specs.Prelude.{ℕ, suc, ◌-◌, Bool, false, not, ◌&&◌, cond, List, [], ◌∷◌, leb, eqb, get_or, replicate}
+use Rattle.std.specs.Prelude.{ℕ, suc, ◌-◌, Bool, false, not, ◌&&◌, cond, List, [], ◌∷◌, leb, get_or, replicate, Option, Some, None, is_some, Result, Ok, Err}
 use Rattle.settings.specs.declared.Range.{Range}
 use Rattle.settings.specs.declared.Mark.{Mark}
 use Rattle.settings.specs.declared.Settings.{Settings}
+use Rattle.settings.specs.declared.SettingOutOfRange.{SettingOutOfRange}
+use Rattle.settings.specs.declared.Field.{Field}
+use Rattle.settings.specs.declared.Field.TheVariants.{DecodingCorrection, DelayA, DelayB, SyncIdLimit, OffsetLimit, RateLimit, DriftDamping, ExternalOffsetUnit, ExternalRateUnit, StaticPayloadWords, StaticSlots}
 
 -- ---- the fields
 
@@ -49,6 +52,20 @@ static_payload_words = field 10
 abbrev pub static_slots : Settings → ℕ
 static_slots = field 11
 
+-- The value of the field with a name.
+abbrev pub value_of : Field → Settings → ℕ
+value_of DecodingCorrection = decoding_correction
+value_of DelayA = delay_a
+value_of DelayB = delay_b
+value_of SyncIdLimit = sync_id_limit
+value_of OffsetLimit = offset_limit
+value_of RateLimit = rate_limit
+value_of DriftDamping = drift_damping
+value_of ExternalOffsetUnit = external_offset_unit
+value_of ExternalRateUnit = external_rate_unit
+value_of StaticPayloadWords = static_payload_words
+value_of StaticSlots = static_slots
+
 -- ---- their ranges
 
 infix 70 ◌to◌
@@ -76,19 +93,35 @@ ranges =
 abbrev pub within : Range → ℕ → Bool
 within range value = leb range.lowest value && leb value range.highest
 
--- The number of the first value out of its range, where the first has the number given; 0 where all are in range.
-unfoldable pub first_outside : ℕ → List Range → List ℕ → ℕ
-first_outside number [] values = 0
-first_outside number (range ∷ ranges) [] = 0
-first_outside number (range ∷ ranges) (value ∷ values) = cond (within range value) (first_outside (suc number) ranges values) number
+-- A range with a value out of it.
+abbrev pub misfit : Range × ℕ → Bool
+misfit p = not (within p.0 p.1)
 
--- "the first such field", which 17 returns: fields are counted from 1. 0 where all are in range.
-abbrev pub first_out_of_range : Settings → ℕ
+-- The number of the first value out of its range, where the first has the number given.
+unfoldable pub first_outside : ℕ → List Range → List ℕ → Option ℕ
+first_outside number [] values = None
+first_outside number (range ∷ rest) [] = None
+first_outside number (range ∷ rest) (value ∷ values) = cond (within range value) (first_outside (suc number) rest values) (Some number)
+
+-- "the first such field", which 17 returns: fields are counted from 1.
+abbrev pub first_out_of_range : Settings → Option ℕ
 first_out_of_range s = first_outside 1 ranges s.fields
 
 -- 17: "a setting out of range".
 abbrev pub out_of_range : Settings → Bool
-out_of_range s = not (eqb (first_out_of_range s) 0)
+out_of_range s = is_some (first_out_of_range s)
+
+-- The number of a refusal that has just one cause.
+abbrev pub refusal_number : SettingOutOfRange → ℕ
+refusal_number refusal = 17
+
+-- What an entry is told of a sheet: nothing, or the first field out of its range.
+abbrev pub refused_where : Option ℕ → Result Unit SettingOutOfRange
+refused_where None = Ok tt
+refused_where (Some number) = Err (record { 0 = number })
+
+abbrev pub checked : Settings → Result Unit SettingOutOfRange
+checked s = refused_where (first_out_of_range s)
 
 -- Mark 0 (C-17: "any 32-bit number"): what stands beside a refusal.
 abbrev pub no_mark : Mark

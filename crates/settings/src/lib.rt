@@ -1,21 +1,38 @@
 // The settings sheet of a node (document 01, "Settings sheet"): eleven numbers, each with its range, a yes or no, and the mark that names
 // the sheet (document 02, C-17).
 //
-// For the crates above: `Settings`, which holds any numbers, a name for each field, and `first_out_of_range`, by which opening a
-// slot refuses a sheet; `Mark`, which measurements and reports carry.
+// For the crates above: `Settings`, which holds any numbers, `Field`, a name for each field, `checked`, by which an entry refuses a sheet, with
+// `SettingOutOfRange`, and `Mark`, which measurements and reports carry.
 #![tactic(auto)]
 
-ghost use Rattle.std.specs.Prelude.{◌≡◌, ◌<◌, ◌≤◌};
-ghost use Rattle.settings.specs.Sheet.{field_count, within, no_settings, field as sheet_field, first_out_of_range, decoding_correction, delay_a, delay_b, sync_id_limit, offset_limit, rate_limit, drift_damping, external_offset_unit, external_rate_unit, static_payload_words, static_slots};
+ghost use Rattle.std.specs.Prelude.{◌≡◌, ◌<◌, IfSome};
+ghost use Rattle.std.specs.List.{position_from, zip};
+ghost use Rattle.settings.specs.Sheet.{field_count, ranges, within, misfit, no_settings, value_of, first_out_of_range, checked, refusal_number};
+
+use refusal::Refusal;
 
 // How many fields have a range.
 pub const FIELDS: usize = 11;
 
-// Returns the constant, which no contract can name, and so holds it to its rule (DECISIONS 108).
-fn field_count() -> usize
-    ensures { result ≡ field_count }
-{
-    FIELDS
+// The constant is its rule's (DECISIONS 108).
+fn constants()
+    ensures { FIELDS ≡ field_count }
+{}
+
+// 01's fields in their order, field 1 first.
+#[derive(Clone, Copy, PartialEq, Eq)]
+pub enum Field {
+    DecodingCorrection,
+    DelayA,
+    DelayB,
+    SyncIdLimit,
+    OffsetLimit,
+    RateLimit,
+    DriftDamping,
+    ExternalOffsetUnit,
+    ExternalRateUnit,
+    StaticPayloadWords,
+    StaticSlots,
 }
 
 #[derive(Clone, Copy)]
@@ -29,8 +46,20 @@ pub struct Settings {
 
 // The mark of a sheet: any number. It has no range, and nothing is worked out with it; it is a type so that no limit or delay can stand
 // in its place.
-#[derive(Clone, Copy)]
+#[derive(Clone, Copy, PartialEq, Eq)]
 pub struct Mark(pub u32);
+
+// Refusal 17: the number of the first field out of its range, counted from 1. (A number and no `Field`: it is what 01 returns with 17.)
+#[derive(Clone, Copy)]
+pub struct SettingOutOfRange(pub u8);
+
+impl Refusal for SettingOutOfRange {
+    ghost number_of = { refusal_number };
+
+    fn number(self) -> u8 {
+        17
+    }
+}
 
 #[derive(Clone, Copy)]
 pub struct Range {
@@ -102,10 +131,7 @@ impl Range {
     fn holds(self, value: u32) -> bool
         ensures { result ≡ within self value }
     {
-        if value < self.lowest {
-            return false;
-        }
-        value <= self.highest
+        (self.lowest..=self.highest).contains(&value)
     }
 }
 
@@ -121,97 +147,37 @@ impl Settings {
         }
     }
 
-    // The number of the first field out of its range, counted from 1; 0 where all are in range.
-    pub fn first_out_of_range(self) -> u8
+    pub fn get(self, field: Field) -> u32
+        ensures { result ≡ value_of field self }
+    {
+        self.fields[field as usize]
+    }
+
+    // The place of the first field out of its range, counted from 0.
+    fn first_misfit(self) -> Option<usize>
+        ensures place { result ≡ position_from misfit 0 (zip ranges self.fields) }
+        ensures low { IfSome result (λ place. place < field_count) }
+    {
+        RANGES
+            .iter()
+            .zip(self.fields.iter())
+            .position(|(range, value)| !range.holds(*value))
+    }
+
+    // The number of the first field out of its range, counted from 1.
+    pub fn first_out_of_range(self) -> Option<u8>
         ensures { result ≡ first_out_of_range self }
     {
-        let fields = self.fields;
-        let ranges = RANGES;
-        let mut i = 0;
-        let mut number = 1;
-        while i < FIELDS {
-            let range = ranges[i];
-            if !range.holds(fields[i]) {
-                return number;
-            }
-            i += 1;
-            number += 1;
+        self.first_misfit().map(|place| place as u8 + 1)
+    }
+
+    // Refusal 17.
+    pub fn checked(self) -> Result<(), SettingOutOfRange>
+        ensures { result ≡ checked self }
+    {
+        match self.first_out_of_range() {
+            Some(number) => Err(SettingOutOfRange(number)),
+            None => Ok(()),
         }
-        0
-    }
-
-    // The field with a number, which counts from 1.
-    fn field(self, number: usize) -> u32
-        requires { (0 < number) × (number ≤ field_count) }
-        ensures { result ≡ sheet_field number self }
-    {
-        let place = number - 1;
-        self.fields[place]
-    }
-
-    pub fn decoding_correction(self) -> u32
-        ensures { result ≡ decoding_correction self }
-    {
-        self.field(1)
-    }
-
-    pub fn delay_a(self) -> u32
-        ensures { result ≡ delay_a self }
-    {
-        self.field(2)
-    }
-
-    pub fn delay_b(self) -> u32
-        ensures { result ≡ delay_b self }
-    {
-        self.field(3)
-    }
-
-    pub fn sync_id_limit(self) -> u32
-        ensures { result ≡ sync_id_limit self }
-    {
-        self.field(4)
-    }
-
-    pub fn offset_limit(self) -> u32
-        ensures { result ≡ offset_limit self }
-    {
-        self.field(5)
-    }
-
-    pub fn rate_limit(self) -> u32
-        ensures { result ≡ rate_limit self }
-    {
-        self.field(6)
-    }
-
-    pub fn drift_damping(self) -> u32
-        ensures { result ≡ drift_damping self }
-    {
-        self.field(7)
-    }
-
-    pub fn external_offset_unit(self) -> u32
-        ensures { result ≡ external_offset_unit self }
-    {
-        self.field(8)
-    }
-
-    pub fn external_rate_unit(self) -> u32
-        ensures { result ≡ external_rate_unit self }
-    {
-        self.field(9)
-    }
-
-    pub fn static_payload_words(self) -> u32
-        ensures { result ≡ static_payload_words self }
-    {
-        self.field(10)
-    }
-
-    pub fn static_slots(self) -> u32
-        ensures { result ≡ static_slots self }
-    {
-        self.field(11)
     }
 }

@@ -1,5 +1,5 @@
 -- Claims about the settings sheet: which sheets are refused, and which field is told ("17: a setting out of range; the first such field").
-use Rattle.std.specs.Prelude.{ℕ, ◌-◌, ◌<◌, ◌≤◌, ◌≡◌, true, false, ◌↔◌, length, get_or}
+use Rattle.std.specs.Prelude.{ℕ, ◌-◌, ◌<◌, ◌≤◌, ◌≡◌, true, false, ◌↔◌, length, get_or, unwrap_or}
 use Rattle.settings.specs.declared.Range.{Range}
 use Rattle.settings.specs.declared.Mark.{Mark}
 use Rattle.settings.specs.declared.Settings.{Settings}
@@ -41,4 +41,4 @@ MarkFree = (mark : Mark) (s : Settings) → first_out_of_range (with_mark mark s
 
 -- What the rule tells of any sheet.
 abbrev pub Sheets : Type 0
-Sheets = (s : Settings) → TypedSettings s → FieldTold s (first_out_of_range s)
+Sheets = (s : Settings) → TypedSettings s → FieldTold s (unwrap_or (first_out_of_range s) 0)

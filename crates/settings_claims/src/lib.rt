@@ -6,18 +6,20 @@ ghost use Rattle.settings_claims.specs.Sheet.{FieldTold};
 
 use settings::{Mark, Settings};
 
-// The field that is told of a sheet: the first out of its range, or 0, exactly where all are in range.
+// The field that is told of a sheet: the first out of its range, or 0, exactly where all are in range. (0 and no `None`: `FieldTold` is of what 01
+// tells.)
+#[tactic(auto, using(crate::proofs::Sheet::sheets))]
 pub fn field_told(settings: Settings) -> u8
     ensures { FieldTold settings result }
 {
-    settings.first_out_of_range()
+    settings.first_out_of_range().unwrap_or(0)
 }
 
-// The field that is told of the sheet with another mark. It is that of the sheet itself: a mark has no range.
+// The field that is told of the sheet with another mark. It is that of the sheet itself: a mark has no range. (0 for none, as above.)
+#[tactic(auto, using(crate::proofs::Sheet::sheets))]
 pub fn field_told_under(settings: Settings, mark: Mark) -> u8
     ensures { FieldTold settings result }
 {
-    let mut marked = settings;
-    marked.mark = mark;
-    marked.first_out_of_range()
+    let marked = Settings { mark, ..settings };
+    marked.first_out_of_range().unwrap_or(0)
 }

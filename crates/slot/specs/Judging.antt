@@ -1,5 +1,5 @@
 -- A slot that is judged (01, "Judging a slot"): what it is opened with, the tests of a frame, and what its status tells.
-use Rattle.std.specs.Prelude.{ℕ, Bool, true, false, not, ◌&&◌, ◌||◌, cond, eqb, leb}
+use Rattle.std.specs.Prelude.{ℕ, Bool, true, false, not, ◌&&◌, ◌||◌, cond, eqb, leb, Option, Some, None}
 use Rattle.base_types.specs.declared.channel.Channel.{Channel}
 use Rattle.base_types.specs.declared.channel.Channel.TheVariants.{A}
 use Rattle.base_types.specs.Channel.{channel_of}
@@ -7,16 +7,12 @@ use Rattle.base_types.specs.declared.id.Slot.{Slot}
 use Rattle.base_types.specs.declared.cycle.Cycle.{Cycle}
 use Rattle.checksum.specs.Pair.{no_checksums}
 use Rattle.header.specs.declared.Header.{Header}
-use Rattle.header.specs.Layout.{no_header}
 use Rattle.settings.specs.declared.Settings.{Settings}
 use Rattle.settings.specs.Sheet.{static_payload_words, static_slots, no_settings}
+use Rattle.slot.specs.declared.status.Miss.{Miss}
 use Rattle.slot.specs.declared.status.Miss.TheVariants.{OtherId, OtherCycle, OtherWords, SyncOrStartup, NullFrame}
-use Rattle.slot.specs.declared.status.Tested.{Tested}
-use Rattle.slot.specs.declared.status.Tested.TheVariants as tested
 use Rattle.slot.specs.declared.status.Reason.{Reason}
-use Rattle.slot.specs.declared.status.Reason.TheVariants as reason
-use Rattle.slot.specs.declared.status.Kept.{Kept}
-use Rattle.slot.specs.declared.status.Kept.TheVariants.{Nothing, Frame}
+use Rattle.slot.specs.declared.status.Reason.TheVariants.{Missed, SecondGoodFrame}
 use Rattle.slot.specs.declared.status.Status.{Status}
 
 -- ---- a slot
@@ -53,8 +49,8 @@ fresh p =
       conflict = false;
       valid = false;
       own_sending = false;
-      reason = reason.NoReason;
-      kept = Nothing;
+      reason = None;
+      kept = None;
       checksums = no_checksums;
     }
 
@@ -89,56 +85,22 @@ misses_clear p h = is_dynamic p && (h.sync || h.startup)
 abbrev pub misses_not_null : Place → Header → Bool
 misses_not_null p h = is_dynamic p && not h.null_frame_bit
 
--- "tested in this order": the first miss, or none.
-abbrev pub first_miss : Place → Header → Tested
+-- "tested in this order": the first miss, or none. A frame that misses none passes (a) to (e).
+abbrev pub first_miss : Place → Header → Option Miss
 first_miss p h =
-    cond (misses_id p h) (tested.Missed OtherId)
-    (cond (misses_cycle p h) (tested.Missed OtherCycle)
-    (cond (misses_words p h) (tested.Missed OtherWords)
-    (cond (misses_clear p h) (tested.Missed SyncOrStartup)
-    (cond (misses_not_null p h) (tested.Missed NullFrame) tested.Passed))))
-
--- "passes (a) to (e)".
-abbrev pub is_passed : Tested → Bool
-is_passed tested.Passed = true
-is_passed (tested.Missed miss) = false
-
--- "the first miss giving a content reason".
-abbrev pub reason_by : Tested → Reason
-reason_by tested.Passed = reason.NoReason
-reason_by (tested.Missed miss) = reason.Missed miss
+    cond (misses_id p h) (Some OtherId)
+    (cond (misses_cycle p h) (Some OtherCycle)
+    (cond (misses_words p h) (Some OtherWords)
+    (cond (misses_clear p h) (Some SyncOrStartup)
+    (cond (misses_not_null p h) (Some NullFrame) None))))
 
 -- ---- a status
 
--- A reason, and not the absence of one.
-abbrev pub is_reason : Reason → Bool
-is_reason reason.NoReason = false
-is_reason (reason.Missed miss) = true
-is_reason reason.SecondGoodFrame = true
-
 -- Reason (f), which no test gives: "a later frame that passes all tests" (02, C-15).
-abbrev pub is_second_good_frame : Reason → Bool
-is_second_good_frame reason.NoReason = false
-is_second_good_frame (reason.Missed miss) = false
-is_second_good_frame reason.SecondGoodFrame = true
-
--- A frame, and not the absence of one.
-abbrev pub is_frame : Kept → Bool
-is_frame Nothing = false
-is_frame (Frame h) = true
-
--- The header of the kept frame; all zeros where there is none.
-abbrev pub header_kept : Kept → Header
-header_kept Nothing = no_header
-header_kept (Frame header) = header
-
--- "keeps the first reason"; (f) comes in "unless a reason is kept already".
-abbrev pub first_reason : Reason → Reason → Reason
-first_reason old new = cond (is_reason old) old new
-
--- "the first such frame's header fields are kept", and "The first frame stays the kept one".
-abbrev pub first_kept : Kept → Kept → Kept
-first_kept old new = cond (is_frame old) old new
+abbrev pub is_second_good_frame : Option Reason → Bool
+is_second_good_frame None = false
+is_second_good_frame (Some (Missed miss)) = false
+is_second_good_frame (Some SecondGoodFrame) = true
 
 -- Whether anything arrived: each arrival is refused, misses a test or misses none, and so sets one of these.
 abbrev pub has_arrival : Status → Bool

@@ -3,9 +3,9 @@
 //
 // Entry: `open_slot` on settings, a channel number, a slot and a cycle. It takes whatever comes and gives an answer and a status. For
 // the crates above: `is_sound`, by which a status that a host hands in is refused, `first_miss`, which gives the first test that
-// a frame misses or that it passes all, `Status::none`, which is all zeros, and `is_static`.
+// a frame misses, if any, `Status::none`, which is all zeros, and `is_static`.
 //
-// Flags are joined by `&` and `|`: the prover follows them more easily than `&&` and `||`.
+// Where more than a few flags are joined, it is by `&` and `|`: the prover stops at a limit where they are joined by `&&` and `||`.
 #![tactic(auto)]
 
 mod content;
@@ -14,6 +14,6 @@ mod sound;
 mod status;
 
 pub use content::{first_miss, is_static};
-pub use opening::{Opened, Opening, open_slot};
+pub use opening::{OpenRefusal, Opened, open_slot};
 pub use sound::is_sound;
-pub use status::{Kept, Miss, Reason, Status, Tested};
+pub use status::{Miss, Reason, Status};

@@ -1,16 +1,15 @@
 // A slot opened.
 ghost use Rattle.std.specs.Prelude.{◌≡◌};
-ghost use Rattle.slot.specs.Judging.{no_status};
-ghost use Rattle.slot.specs.Opening.{told, OpenSays};
+ghost use Rattle.slot.specs.declared.opening.OpenRefusal.TheVariants.{SettingOutOfRange as OpenRefusal-as-SettingOutOfRange, NotAChannel as OpenRefusal-as-NotAChannel};
+ghost use Rattle.slot.specs.Opening.{number_of, field_of, OpenSays, OpensTo};
 
 use crate::status::Status;
-use base_types::{Channel, Cycle, Named, Slot};
-use settings::Settings;
+use base_types::{Channel, Cycle, NotAChannel, Slot};
+use refusal::{Answered, Refusal};
+use settings::{SettingOutOfRange, Settings};
 
-// What opening a slot answers: that it is open, or why it is not.
 #[derive(Clone, Copy)]
-pub enum Opening {
-    Opened,
+pub enum OpenRefusal {
     // With the number of the first field out of range.
     SettingOutOfRange(u8),
     NotAChannel,
@@ -18,68 +17,72 @@ pub enum Opening {
     CycleTooHigh,
 }
 
-impl Opening {
-    // 01's number: 0, or that of the refusal.
-    pub fn number(self) -> u8
-        ensures { result ≡ (told self).number }
-    {
+impl Refusal for OpenRefusal {
+    ghost number_of = { number_of };
+
+    fn number(self) -> u8 {
         match self {
-            Opening::Opened => 0,
-            Opening::SettingOutOfRange(_) => 17,
-            Opening::NotAChannel => 1,
-            Opening::NotASlot => 9,
-            Opening::CycleTooHigh => 11,
+            OpenRefusal::SettingOutOfRange(_) => 17,
+            OpenRefusal::NotAChannel => 1,
+            OpenRefusal::NotASlot => 9,
+            OpenRefusal::CycleTooHigh => 11,
         }
     }
+}
 
-    // The number of the first field out of range, 0 unless that is the refusal.
+impl From<SettingOutOfRange> for OpenRefusal {
+    ghost from_gives = { λ setting refusal. refusal ≡ OpenRefusal-as-SettingOutOfRange setting.0 };
+
+    fn from(setting: SettingOutOfRange) -> OpenRefusal {
+        OpenRefusal::SettingOutOfRange(setting.0)
+    }
+}
+
+impl From<NotAChannel> for OpenRefusal {
+    ghost from_gives = { λ _ refusal. refusal ≡ OpenRefusal-as-NotAChannel };
+
+    fn from(_refusal: NotAChannel) -> OpenRefusal {
+        OpenRefusal::NotAChannel
+    }
+}
+
+impl OpenRefusal {
+    // The number of the first field out of range, 0 unless that is the refusal. (0 and no Option: 01 tells 0.)
     pub fn field(self) -> u8
-        ensures { result ≡ (told self).field }
+        ensures { result ≡ field_of self }
     {
-        let Opening::SettingOutOfRange(field) = self else {
+        let OpenRefusal::SettingOutOfRange(field) = self else {
             return 0;
         };
         field
     }
 }
 
-#[derive(Clone, Copy)]
-pub struct Opened {
-    pub answer: Opening,
-    pub status: Status,
-}
+// What opening a slot answers, and the status beside it.
+pub type Opened = Answered<(), OpenRefusal, Status>;
 
-// Opens a slot. The tests come in 01's order; with a refusal the status is all zeros.
+// Opens a slot; with a refusal the status is all zeros.
 pub fn open_slot(settings: Settings, channel: u8, slot: Slot, cycle: Cycle) -> Opened
     ensures { OpenSays settings channel slot cycle result }
 {
-    let field = settings.first_out_of_range();
-    if field != 0 {
-        return refused(Opening::SettingOutOfRange(field));
-    }
-    let Named::Is(named) = Channel::named(channel) else {
-        return refused(Opening::NotAChannel);
-    };
-    // Both are asked before either is told, so that the order of the two tests can be tried the other way round.
-    let is_not_a_slot = slot.is_not_an_id();
-    let is_too_high = cycle.is_too_high();
-    if is_not_a_slot {
-        return refused(Opening::NotASlot);
-    }
-    if is_too_high {
-        return refused(Opening::CycleTooHigh);
-    }
-    Opened {
-        answer: Opening::Opened,
-        status: Status::fresh(settings, named, slot, cycle),
+    match opened(settings, channel, slot, cycle) {
+        Ok(status) => Answered::accepted((), status),
+        Err(refusal) => Answered::refused(refusal, Status::none()),
     }
 }
 
-fn refused(answer: Opening) -> Opened
-    ensures { result ≡ record { answer = answer; status = no_status } }
+// The status of a slot that is opened. The tests come in 01's order.
+#[tactic(auto, unfolding(refusal::specs::Refusal::first, base_types::specs::Channel::named_by, base_types::specs::Channel::not_a_channel, base_types::specs::Channel::channel_of))]
+fn opened(settings: Settings, channel: u8, slot: Slot, cycle: Cycle) -> Result<Status, OpenRefusal>
+    ensures { OpensTo settings channel slot cycle result }
 {
-    Opened {
-        answer,
-        status: Status::none(),
+    settings.checked()?;
+    let named = Channel::try_from(channel)?;
+    if slot.is_not_an_id() {
+        return Err(OpenRefusal::NotASlot);
     }
+    if cycle.is_too_high() {
+        return Err(OpenRefusal::CycleTooHigh);
+    }
+    Ok(Status::fresh(settings, named, slot, cycle))
 }

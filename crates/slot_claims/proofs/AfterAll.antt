@@ -1,16 +1,19 @@
 -- What a sequence of events leaves of a status: one law for a flag, and one for what is kept first. What an event sets or gives may
 -- depend on the status before it, and so what is said of the event on the events before it.
 use mathlib.Core.Path.{◌≡◌, refl, sym, ap, ◌∙◌}
-use mathlib.Core.Bool.{Bool, true, false, false≢true, ◌||◌, cond}
+use mathlib.Core.Bool.{Bool, true, false, false≢true, ◌||◌}
 use mathlib.Core.List.{List, [], ◌∷◌, ◌++◌}
 use mathlib.Core.Logic.{◌⊎◌, inl, inr, ◌↔◌}
+use Rattle.std.specs.Prelude.{Option, Some, None, is_some}
+use Rattle.std.specs.Option.{option_or}
+use Rattle.std.proofs.lemmas.Option.{none-some}
 use Rattle.numbers.proofs.Truth.{either_true, true_left, true_right}
-use Rattle.numbers.proofs.Walk.{cases, came}
+use Rattle.numbers.proofs.Walk.{came}
 use Rattle.slot.specs.declared.status.Status.{Status}
 use Rattle.slot.specs.Judging.{Place, place_of, fresh}
 use Rattle.slot.specs.Sound.{sound}
 use Rattle.slot_events.specs.Effect.{Event, Brought, brings, after}
-use Rattle.slot_claims.specs.Histories.{Some, First, FirstIs}
+use Rattle.slot_claims.specs.Histories.{SomeEvent, First, FirstIs}
 use Rattle.slot_claims.proofs.SoundCalls.{after_sound}
 use Rattle.slot_claims.proofs.SequenceLaws.{Behind, none_of_none, some_here, some_later, some_cases, first_here, first_later}
 
@@ -42,7 +45,7 @@ Exactly is s P = (before : List Event) (e : Event) → (is (after_all s before) 
 module _ (flag : Status → Bool) (sets : Status → Brought → Bool)
     (once : (s : Status) (e : Event) → flag (after s e) ≡ sets s (brings (place_of s) e) || flag s) where
   flag_some : (P : List Event → Event → Type 0) (s : Status) → Exactly sets s P → (events : List Event)
-      → flag (after_all s events) ≡ true → Some P events ⊎ (flag s ≡ true)
+      → flag (after_all s events) ≡ true → SomeEvent P events ⊎ (flag s ≡ true)
   unfolding after_all
   flag_some P s same [] t = inr t
   flag_some P s same (e ∷ events) t =
@@ -52,7 +55,7 @@ module _ (flag : Status → Bool) (sets : Status → Brought → Bool)
       came (either_true (sets s (brings (place_of s) e)) (flag s) (sym (once s e) ∙ now)) (λ set. inl (some_here e events ((same [] e).0 set))) inr)
 
   some_flag : (P : List Event → Event → Type 0) (s : Status) → Exactly sets s P → (events : List Event)
-      → Some P events ⊎ (flag s ≡ true) → flag (after_all s events) ≡ true
+      → SomeEvent P events ⊎ (flag s ≡ true) → flag (after_all s events) ≡ true
   unfolding after_all
   some_flag P s same [] x = came x (λ some. absurd (none_of_none some)) (λ t. t)
   some_flag P s same (e ∷ events) x =
@@ -64,7 +67,7 @@ module _ (flag : Status → Bool) (sets : Status → Brought → Bool)
 
   -- from a fresh status, where it is clear: exactly when some event set it
   pub flag_exactly : (P : List Event → Event → Type 0) (p : Place) (events : List Event) → flag (fresh p) ≡ false → Exactly sets (fresh p) P
-      → (flag (end p events) ≡ true) ↔ Some P events
+      → (flag (end p events) ≡ true) ↔ SomeEvent P events
   flag_exactly P p events clear same = (
     λ t. came (flag_some P (fresh p) same events t) (λ some. some) (λ stood. absurd (false≢true (sym clear ∙ stood))),
     λ some. some_flag P (fresh p) same events (inl some),
@@ -73,59 +76,67 @@ module _ (flag : Status → Bool) (sets : Status → Brought → Bool)
 -- ---- what is kept
 
 -- It is the first that an event brought, of which P holds.
-module _ {A : Type 0} (is : A → Bool) (keeps : Status → A) (gives : Status → Brought → A)
-    (once : (s : Status) (e : Event) → keeps (after s e) ≡ cond (is (keeps s)) (keeps s) (gives s (brings (place_of s) e))) where
+module _ {A : Type 0} (keeps : Status → Option A) (gives : Status → Brought → Option A)
+    (once : (s : Status) (e : Event) → keeps (after s e) ≡ option_or (keeps s) (gives s (brings (place_of s) e))) where
   -- what is kept stays
-  stays : (s : Status) (events : List Event) → is (keeps s) ≡ true → keeps (after_all s events) ≡ keeps s
+  stays : (s : Status) (events : List Event) (a : A) → keeps s ≡ Some a → keeps (after_all s events) ≡ Some a
   unfolding after_all
-  stays s [] there = refl
-  stays s (e ∷ events) there =
-      let same : keeps (after s e) ≡ keeps s = once s e ∙ ap (λ (b : Bool). cond b (keeps s) (gives s (brings (place_of s) e))) there in
-      stays (after s e) events (ap is same ∙ there) ∙ same
+  stays s [] a there = there
+  stays s (e ∷ events) a there =
+      stays (after s e) events a (once s e ∙ ap (λ (o : Option A). option_or o (gives s (brings (place_of s) e))) there)
 
   -- where nothing is kept, an event's is taken
-  takes : (s : Status) (e : Event) → is (keeps s) ≡ false → keeps (after s e) ≡ gives s (brings (place_of s) e)
-  takes s e none = once s e ∙ ap (λ (b : Bool). cond b (keeps s) (gives s (brings (place_of s) e))) none
+  takes : (s : Status) (e : Event) → keeps s ≡ None → keeps (after s e) ≡ gives s (brings (place_of s) e)
+  takes s e none = once s e ∙ ap (λ (o : Option A). option_or o (gives s (brings (place_of s) e))) none
 
   -- something is there to take
   abbrev gives_one : Status → Brought → Bool
-  gives_one s b = is (gives s b)
+  gives_one s b = is_some (gives s b)
+
+  -- the first event of which P holds gives a
+  abbrev FirstGives : A → (List Event → Event → Type 0) → Status → List Event → Type 0
+  FirstGives a P s events =
+      (before : List Event) × (e : Event) × First P events before e × (gives (after_all s before) (brings (place_of s) e) ≡ Some a)
 
   kept_first : (P : List Event → Event → Type 0) (s : Status) → Exactly gives_one s P → (events : List Event) (a : A)
-      → is a ≡ true → is (keeps s) ≡ false → keeps (after_all s events) ≡ a
-      → (before : List Event) × (e : Event) × First P events before e × (gives (after_all s before) (brings (place_of s) e) ≡ a)
+      → keeps s ≡ None → keeps (after_all s events) ≡ Some a → FirstGives a P s events
   unfolding after_all
-  kept_first P s same [] a there none k = absurd (false≢true (sym none ∙ ap is k ∙ there))
-  kept_first P s same (e ∷ events) a there none k =
-      let new : is (keeps (after s e)) ≡ gives_one s (brings (place_of s) e) = ap is (takes s e none) in
-      cases (gives_one s (brings (place_of s) e))
-      (λ t. ([], e, first_here e events ((same [] e).0 t), sym (stays (after s e) events (new ∙ t) ∙ takes s e none) ∙ k))
-      (λ t.
-      let r = kept_first (Behind e P) (after s e) (λ before. same (e ∷ before)) events a there (new ∙ t) k in
-      (e ∷ r.0, r.1, first_later e events r.0 r.1 (λ h. false≢true (sym t ∙ (same [] e).1 h)) r.2, r.3))
+  kept_first P s same [] a none k = absurd (none-some a (sym none ∙ k))
+  kept_first P s same (e ∷ events) a none k =
+      by (gives s (brings (place_of s) e)) refl
+      (λ g. kept_first (Behind e P) (after s e) (λ before. same (e ∷ before)) events a (takes s e none ∙ g) k)
+    where
+      by : (given : Option A) → gives s (brings (place_of s) e) ≡ given
+          → (gives s (brings (place_of s) e) ≡ None → FirstGives a (Behind e P) (after s e) events) → FirstGives a P s (e ∷ events)
+      by (Some b) g later = ([], e, first_here e events ((same [] e).0 (ap is_some g)), g ∙ sym (stays (after s e) events b (takes s e none ∙ g)) ∙ k)
+      by None g later =
+          let r = later g in
+          (e ∷ r.0, r.1, first_later e events r.0 r.1 (λ h. false≢true (sym (ap is_some g) ∙ (same [] e).1 h)) r.2, r.3)
 
-  first_kept_lem : (P : List Event → Event → Type 0) (s : Status) → Exactly gives_one s P → (before later : List Event) (e : Event)
-      → is (keeps s) ≡ false → P before e → (Some P before → ⊥)
-      → keeps (after_all s (before ++ (e ∷ later))) ≡ gives (after_all s before) (brings (place_of s) e)
+  first_kept_lem : (P : List Event → Event → Type 0) (s : Status) → Exactly gives_one s P → (before later : List Event) (e : Event) (a : A)
+      → keeps s ≡ None → (SomeEvent P before → ⊥) → gives (after_all s before) (brings (place_of s) e) ≡ Some a
+      → keeps (after_all s (before ++ (e ∷ later))) ≡ Some a
   unfolding after_all
-  first_kept_lem P s same [] later e none h earlier = stays (after s e) later (ap is (takes s e none) ∙ (same [] e).1 h) ∙ takes s e none
-  first_kept_lem P s same (x ∷ before) later e none h earlier =
-      let out : gives_one s (brings (place_of s) x) ≡ false =
-      cases (gives_one s (brings (place_of s) x)) (λ t. absurd (earlier (some_here x before ((same [] x).0 t)))) (λ t. t) in
-      first_kept_lem (Behind x P) (after s x) (λ past. same (x ∷ past)) before later e (ap is (takes s x none) ∙ out) h (λ some. earlier (some_later x before some))
+  first_kept_lem P s same [] later e a none earlier g = stays (after s e) later a (takes s e none ∙ g)
+  first_kept_lem P s same (x ∷ before) later e a none earlier g =
+      first_kept_lem (Behind x P) (after s x) (λ past. same (x ∷ past)) before later e a
+      (takes s x none ∙ by (gives s (brings (place_of s) x)) refl) (λ some. earlier (some_later x before some)) g
+    where
+      by : (given : Option A) → gives s (brings (place_of s) x) ≡ given → gives s (brings (place_of s) x) ≡ None
+      by None e = e
+      by (Some b) e = absurd (earlier (some_here x before ((same [] x).0 (ap is_some e))))
 
   -- from a fresh status, which keeps nothing, in other words for what the event brought
-  pub first_exactly : (P : List Event → Event → Type 0) (p : Place) (events : List Event) → is (keeps (fresh p)) ≡ false
-      → Exactly gives_one (fresh p) P → (a : A) → is a ≡ true
-      → (Q : List Event → Event → Type 0) → ((before : List Event) (e : Event) → (gives (end p before) (brings p e) ≡ a) ↔ Q before e)
-      → (keeps (end p events) ≡ a) ↔ FirstIs P Q events
-  first_exactly P p events none same a there Q meant = (
+  pub first_exactly : (P : List Event → Event → Type 0) (p : Place) (events : List Event) → keeps (fresh p) ≡ None
+      → Exactly gives_one (fresh p) P → (a : A)
+      → (Q : List Event → Event → Type 0) → ((before : List Event) (e : Event) → (gives (end p before) (brings p e) ≡ Some a) ↔ Q before e)
+      → (keeps (end p events) ≡ Some a) ↔ FirstIs P Q events
+  first_exactly P p events none same a Q meant = (
     λ k.
-        let r = kept_first P (fresh p) same events a there none k in
+        let r = kept_first P (fresh p) same events a none k in
         (r.0, r.1, r.2, (meant r.0 r.1).0 r.3),
     λ r.
         let f = r.2 in
         ap (λ (l : List Event). keeps (after_all (fresh p) l)) f.parts
-        ∙ first_kept_lem P (fresh p) same r.0 f.after r.1 none f.holds f.earlier
-        ∙ (meant r.0 r.1).1 r.3,
+        ∙ first_kept_lem P (fresh p) same r.0 f.after r.1 a none f.earlier ((meant r.0 r.1).1 r.3),
   )

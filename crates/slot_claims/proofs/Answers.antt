@@ -6,50 +6,50 @@ use lib.Dec.{eqb}
 use Rattle.refusal.specs.Refusal.{numbered}
 use Rattle.refusal.proofs.FirstLaws.{told_in_order, if_refused}
 use Rattle.refusal.proofs.AnswerLaws.{one_answer}
+use Rattle.std.specs.Prelude.{Result, Ok, Err}
 use Rattle.slot.specs.declared.status.Status.{Status}
-use Rattle.slot.specs.declared.opening.Opening.{Opening}
-use Rattle.slot.specs.declared.opening.Opening.TheVariants.{Opened, SettingOutOfRange, NotAChannel, NotASlot, CycleTooHigh}
+use Rattle.slot.specs.declared.opening.OpenRefusal.{OpenRefusal}
+use Rattle.slot.specs.declared.opening.OpenRefusal.TheVariants.{SettingOutOfRange, NotAChannel, NotASlot, CycleTooHigh}
 use Rattle.slot.specs.Judging.{place_by, fresh, no_status}
 use Rattle.slot.specs.Opening.{Told, told}
-use Rattle.slot_events.specs.declared.Recording.{Recording}
-use Rattle.slot_events.specs.declared.Recording.TheVariants.{Recorded, NotSound}
 use Rattle.slot_events.specs.Effect.{after}
 use Rattle.slot_events.specs.Events as event
+use Rattle.slot_events.specs.Events.{Recording}
 use Rattle.slot_claims.specs.Answers.{OpenOne, EventOne, OpenInOrder, EventInOrder, OpenRefused, EventRefused}
 
 -- ---- one result
 
 -- a number names one case, so answers that say the same in 01's numbers are one answer
-opening_by : Told → Opening
+opening_by : Told → Result Unit OpenRefusal
 opening_by t =
-    cond (eqb t.number 0) Opened
-    (cond (eqb t.number 17) (SettingOutOfRange t.field)
-    (cond (eqb t.number 1) NotAChannel (cond (eqb t.number 9) NotASlot CycleTooHigh)))
+    cond (eqb t.number 0) (Ok tt)
+    (cond (eqb t.number 17) (Err (SettingOutOfRange t.field))
+    (cond (eqb t.number 1) (Err NotAChannel) (cond (eqb t.number 9) (Err NotASlot) (Err CycleTooHigh))))
 
-opening_by_lem : (r : Opening) → opening_by (told r) ≡ r
+opening_by_lem : (answer : Result Unit OpenRefusal) → opening_by (told answer) ≡ answer
 unfolding opening_by
-opening_by_lem Opened = refl
-opening_by_lem (SettingOutOfRange field) = refl
-opening_by_lem NotAChannel = refl
-opening_by_lem NotASlot = refl
-opening_by_lem CycleTooHigh = refl
+opening_by_lem (Ok done) = refl
+opening_by_lem (Err (SettingOutOfRange field)) = refl
+opening_by_lem (Err NotAChannel) = refl
+opening_by_lem (Err NotASlot) = refl
+opening_by_lem (Err CycleTooHigh) = refl
 
 pub open_one : OpenOne
 open_one settings channel slot cycle r s hr hs =
-    ap₂ (λ (a : Opening) (t : Status). record { answer = a; status = t })
+    ap₂ (λ (a : Result Unit OpenRefusal) (t : Status). record { answer = a; state = t })
     (one_answer told opening_by opening_by_lem r.answer s.answer hr.answers hs.answers) (hr.leaves ∙ sym hs.leaves)
 
 recording_by : ℕ → Recording
-recording_by n = cond (eqb n 0) Recorded NotSound
+recording_by n = cond (eqb n 0) (Ok tt) (Err (record {}))
 
-recording_by_lem : (r : Recording) → recording_by (event.told r) ≡ r
+recording_by_lem : (answer : Recording) → recording_by (event.told answer) ≡ answer
 unfolding recording_by
-recording_by_lem Recorded = refl
-recording_by_lem NotSound = refl
+recording_by_lem (Ok done) = refl
+recording_by_lem (Err refusal) = refl
 
 pub event_one : EventOne
 event_one status e r s hr hs =
-    ap₂ (λ (a : Recording) (t : Status). record { answer = a; status = t })
+    ap₂ (λ (a : Recording) (t : Status). record { answer = a; state = t })
     (one_answer event.told recording_by recording_by_lem r.answer s.answer hr.answers hs.answers) (hr.leaves ∙ sym hs.leaves)
 
 -- ---- in order

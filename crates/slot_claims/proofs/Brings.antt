@@ -1,24 +1,22 @@
 -- What one event brings, in the words of a history.
 use Prim.Native.Nat.{ℕ}
 use mathlib.Core.Path.{◌≡◌, refl, sym, ap, ◌∙◌, subst}
-use mathlib.Core.Bool.{true, false, false≢true, cond}
+use mathlib.Core.Bool.{true, false, false≢true}
 use mathlib.Core.List.{List}
 use mathlib.Core.Logic.{◌⊎◌, inl, inr, ◌↔◌}
 use borrow.Author.Tests.{eqb-true, not-false}
-use Rattle.numbers.proofs.Walk.{cases, cases_in, came}
+use Rattle.numbers.proofs.Walk.{cases, came}
+use Rattle.std.specs.Prelude.{Option, Some, None, is_some, Ok}
+use Rattle.std.proofs.Common.{arith}
 use Rattle.refusal.specs.Refusal.{first}
 use Rattle.checksum.specs.declared.pair.ChecksumPair.{ChecksumPair}
 use Rattle.header.specs.declared.Header.{Header}
-use Rattle.frame.specs.declared.Reading.TheVariants.{Accepted}
 use Rattle.frame.specs.Read as read
 use Rattle.frame.specs.Read.{header_read, refusals_on, ReadOnSays}
 use Rattle.slot.specs.declared.status.Miss.{Miss}
-use Rattle.slot.specs.declared.status.Tested.{Tested}
-use Rattle.slot.specs.declared.status.Tested.TheVariants as tested
-use Rattle.slot.specs.declared.status.Reason.TheVariants as reason
-use Rattle.slot.specs.declared.status.Kept.TheVariants as kept
-use Rattle.slot.specs.Judging.{Place, first_miss, reason_by, is_reason, is_frame}
-use Rattle.slot_events.specs.Effect.{Event, Brought, arrival, boundary_activity, own_sending, kept_by, is_refused, of_refused, of_accepted, brings}
+use Rattle.slot.specs.declared.status.Reason.TheVariants.{Missed}
+use Rattle.slot.specs.Judging.{Place, first_miss}
+use Rattle.slot_events.specs.Effect.{Event, Brought, arrival, boundary_activity, own_sending, kept_by, reason_by, is_refused, brings}
 use Rattle.slot_events.proofs.EventLaws.{brings_refused, brings_frame}
 use Rattle.slot_claims.specs.Histories.{Arrives, ArrivesRefused, ArrivesTelling, ArrivesMissing, ArrivesPassing}
 use Rattle.slot_claims.proofs.ReasonLaws.{missed_first, kept_frame}
@@ -28,11 +26,11 @@ use Rattle.slot_claims.proofs.Content.{tests_exactly}
 
 -- reading refuses, or it accepts with some header
 abbrev EitherWay : Place → List ℕ → Type 0
-EitherWay p bytes = (is_refused p.channel bytes ≡ true) ⊎ ((h : Header) × ReadOnSays p.channel bytes (Accepted h))
+EitherWay p bytes = (is_refused p.channel bytes ≡ true) ⊎ ((h : Header) × ReadOnSays p.channel bytes (Ok h))
 
 module _ (p : Place) (bytes : List ℕ) where
   -- the answer of reading where nothing is refused
-  accepts : is_refused p.channel bytes ≡ false → ReadOnSays p.channel bytes (Accepted (header_read bytes))
+  accepts : is_refused p.channel bytes ≡ false → ReadOnSays p.channel bytes (Ok (header_read bytes))
   accepts e = sym (ap (λ (n : ℕ). read.tells n p.channel bytes) (eqb-true (first (refusals_on p.channel bytes)) 0 (not-false _ e)))
 
   either_way : EitherWay p bytes
@@ -45,11 +43,7 @@ abbrev OnlyArrival : Brought → Type 0
 OnlyArrival b = (b.arrived ≡ true) × (b.at_boundary ≡ false) × (b.sent ≡ false)
 
 only_arrival : (p : Place) (bytes : List ℕ) → OnlyArrival (brings p (arrival bytes))
-only_arrival p bytes =
-    let given = first_miss p (header_read bytes) in
-    cases_in
-    (λ b. OnlyArrival (cond b (of_refused (read.rule_on p.channel bytes).checksums) (of_accepted (reason_by given) (kept_by given (header_read bytes)))))
-    (is_refused p.channel bytes) (λ t. (refl, refl, refl)) (λ t. (refl, refl, refl))
+only_arrival p bytes = grind arith
 
 pub arrives_exactly : (p : Place) (e : Event) → ((brings p e).arrived ≡ true) ↔ Arrives e
 arrives_exactly p e = (there e, λ a. ap (λ (x : Event). (brings p x).arrived) a.1 ∙ (only_arrival p a.0).0)
@@ -93,45 +87,45 @@ checksums_exactly p told e = (there e, back)
         let a = f.1 in
         (t, ap (λ (x : Event). (brings p x).checksums) a.1 ∙ brought a.0 (sym (ap (λ (x : Event). (brings p x).refused) a.1) ∙ t) ∙ a.2)
 
-pub misses_exactly : (p : Place) (miss : Miss) (e : Event) → ((brings p e).reason ≡ reason.Missed miss) ↔ ArrivesMissing p miss e
+pub misses_exactly : (p : Place) (miss : Miss) (e : Event) → ((brings p e).reason ≡ Some (Missed miss)) ↔ ArrivesMissing p miss e
 misses_exactly p miss e = (there e, back)
   where
-    there : (e : Event) → (brings p e).reason ≡ reason.Missed miss → ArrivesMissing p miss e
-    there boundary_activity t = absurd (false≢true (ap is_reason t))
-    there own_sending t = absurd (false≢true (ap is_reason t))
+    there : (e : Event) → (brings p e).reason ≡ Some (Missed miss) → ArrivesMissing p miss e
+    there boundary_activity t = absurd (false≢true (ap is_some t))
+    there own_sending t = absurd (false≢true (ap is_some t))
     there (arrival bytes) t =
         came (either_way p bytes)
-        (λ out. absurd (false≢true (ap is_reason (sym (ap (λ (b : Brought). b.reason) (brings_refused p bytes out)) ∙ t))))
+        (λ out. absurd (false≢true (ap is_some (sym (ap (λ (b : Brought). b.reason) (brings_refused p bytes out)) ∙ t))))
         (λ a.
         let first = missed_first (first_miss p a.0) miss (sym (ap (λ (b : Brought). b.reason) (brings_frame p bytes a.0 a.1)) ∙ t) in
-        (bytes, refl, a.0, a.1, (tests_exactly p a.0 (tested.Missed miss)).0 first))
+        (bytes, refl, a.0, a.1, (tests_exactly p a.0 (Some miss)).0 first))
 
-    back : ArrivesMissing p miss e → (brings p e).reason ≡ reason.Missed miss
+    back : ArrivesMissing p miss e → (brings p e).reason ≡ Some (Missed miss)
     back m =
         ap (λ (x : Event). (brings p x).reason) m.1 ∙ ap (λ (b : Brought). b.reason) (brings_frame p m.0 m.2 m.3)
-        ∙ ap reason_by ((tests_exactly p m.2 (tested.Missed miss)).1 m.4)
+        ∙ ap reason_by ((tests_exactly p m.2 (Some miss)).1 m.4)
 
-pub passes_exactly : (p : Place) (h : Header) (e : Event) → ((brings p e).kept ≡ kept.Frame h) ↔ ArrivesPassing p h e
+pub passes_exactly : (p : Place) (h : Header) (e : Event) → ((brings p e).kept ≡ Some h) ↔ ArrivesPassing p h e
 passes_exactly p h e = (there e, back)
   where
-    there : (e : Event) → (brings p e).kept ≡ kept.Frame h → ArrivesPassing p h e
-    there boundary_activity t = absurd (false≢true (ap is_frame t))
-    there own_sending t = absurd (false≢true (ap is_frame t))
+    there : (e : Event) → (brings p e).kept ≡ Some h → ArrivesPassing p h e
+    there boundary_activity t = absurd (false≢true (ap is_some t))
+    there own_sending t = absurd (false≢true (ap is_some t))
     there (arrival bytes) t =
         came (either_way p bytes)
-        (λ out. absurd (false≢true (ap is_frame (sym (ap (λ (b : Brought). b.kept) (brings_refused p bytes out)) ∙ t))))
+        (λ out. absurd (false≢true (ap is_some (sym (ap (λ (b : Brought). b.kept) (brings_refused p bytes out)) ∙ t))))
         (λ a.
         let k = kept_frame (first_miss p a.0) a.0 h (sym (ap (λ (b : Brought). b.kept) (brings_frame p bytes a.0 a.1)) ∙ t) in (
           bytes,
           refl,
-          subst (λ (x : Header). ReadOnSays p.channel bytes (Accepted x)) k.1 a.1,
-          (tests_exactly p h tested.Passed).0 (ap (first_miss p) (sym k.1) ∙ k.0),
+          subst (λ (x : Header). ReadOnSays p.channel bytes (Ok x)) k.1 a.1,
+          (tests_exactly p h None).0 (ap (first_miss p) (sym k.1) ∙ k.0),
         ))
 
-    back : ArrivesPassing p h e → (brings p e).kept ≡ kept.Frame h
+    back : ArrivesPassing p h e → (brings p e).kept ≡ Some h
     back m =
         ap (λ (x : Event). (brings p x).kept) m.1 ∙ ap (λ (b : Brought). b.kept) (brings_frame p m.0 h m.2)
-        ∙ ap (λ (t : Tested). kept_by t h) ((tests_exactly p h tested.Passed).1 m.3)
+        ∙ ap (λ (t : Option Miss). kept_by t h) ((tests_exactly p h None).1 m.3)
 
 pub boundary_exactly : (p : Place) (e : Event) → ((brings p e).at_boundary ≡ true) ↔ (e ≡ boundary_activity)
 boundary_exactly p e = (there e, ap (λ (x : Event). (brings p x).at_boundary))

@@ -1,7 +1,7 @@
 -- A header that a read could give: a byte string that is accepted with it.
 use Prim.Native.Nat.{ℕ, ◌*◌, ◌≤◌}
 use mathlib.Core.Path.{◌≡◌, refl, sym, ap, ◌∙◌, subst}
-use mathlib.Core.Bool.{true, false, not}
+use mathlib.Core.Bool.{Bool, true, false, ◌&&◌}
 use mathlib.Core.List.{List, []}
 use native.Mathlib.Omega.{arith}
 use borrow.Author.Tests.{eqb-true, eqb-false, le-leb, leb-true, le-ltb, not-true, not-false}
@@ -30,22 +30,21 @@ use Rattle.frame_claims.proofs.Exact.{written_frame}
 use Rattle.slot.specs.Sound.{could_be_read}
 use Rattle.slot_events.proofs.EventLaws.{accepted_none}
 use Rattle.slot_claims.specs.Sound.{Readable, CouldBeReadExactly}
-use Rattle.numbers.proofs.Truth.{both_true}
 
 -- the five clauses
+parts : (a b c d e : Bool) → a && (b && (c && (d && e))) ≡ true → (a ≡ true) × (b ≡ true) × (c ≡ true) × (d ≡ true) × (e ≡ true)
+parts a b c d e all = grind arith
+
 could_parts : (h : Header) → could_be_read h ≡ true
     → (not_an_id h.id.0 ≡ false) × (h.words ≤ most_words) × (cycle_too_high h.cycle.0 ≡ false)
     × (startup_without_sync h.startup h.sync ≡ false) × (h.checksum ≡ header_checksum_of h)
 could_parts h e =
-    let p1 = both_true (not (not_an_id h.id.0)) _ e in
-    let p2 = both_true (leb h.words most_words) _ p1.1 in
-    let p3 = both_true (not (cycle_too_high h.cycle.0)) _ p2.1 in
-    let p4 = both_true (not (startup_without_sync h.startup h.sync)) _ p3.1 in (
-      not-true _ p1.0,
-      leb-true h.words most_words p2.0,
-      not-true _ p3.0,
-      not-true _ p4.0,
-      eqb-true h.checksum (header_checksum_of h) p4.1,
+    let p = parts _ _ _ _ _ e in (
+      not-true _ p.0,
+      leb-true h.words most_words p.1,
+      not-true _ p.2,
+      not-true _ p.3,
+      eqb-true h.checksum (header_checksum_of h) p.4,
     )
 
 -- what reading accepts

@@ -5,13 +5,13 @@ use mathlib.Core.List.{List, [], ◌∷◌, ◌++◌}
 use mathlib.Core.Logic.{◌⊎◌, inl, inr}
 use Rattle.numbers.proofs.Walk.{came}
 use Rattle.slot_events.specs.Effect.{Event}
-use Rattle.slot_claims.specs.Histories.{Some, First}
+use Rattle.slot_claims.specs.Histories.{SomeEvent, First}
 
 -- what is said of the events behind this one, where those before them are counted from behind it
 abbrev pub Behind : Event → (List Event → Event → Type 0) → List Event → Event → Type 0
 Behind e P before x = P (e ∷ before) x
 
-pub none_of_none : {P : List Event → Event → Type 0} → Some P [] → ⊥
+pub none_of_none : {P : List Event → Event → Type 0} → SomeEvent P [] → ⊥
 none_of_none s = no s.0 s.1 s.2 s.3
   where
     no : (before : List Event) (x : Event) (after : List Event) → [] ≡ before ++ (x ∷ after) → ⊥
@@ -19,16 +19,16 @@ none_of_none s = no s.0 s.1 s.2 s.3
     no (y ∷ before) x after parts = false≢true cc
 
 module _ {P : List Event → Event → Type 0} (e : Event) (events : List Event) where
-  pub some_here : P [] e → Some P (e ∷ events)
+  pub some_here : P [] e → SomeEvent P (e ∷ events)
   some_here h = ([], e, events, refl, h)
 
-  pub some_later : Some (Behind e P) events → Some P (e ∷ events)
+  pub some_later : SomeEvent (Behind e P) events → SomeEvent P (e ∷ events)
   some_later s = (e ∷ s.0, s.1, s.2, ap (◌∷◌ e) s.3, s.4)
 
-  pub some_cases : Some P (e ∷ events) → P [] e ⊎ Some (Behind e P) events
+  pub some_cases : SomeEvent P (e ∷ events) → P [] e ⊎ SomeEvent (Behind e P) events
   some_cases s = by s.0 s.1 s.2 s.3 s.4
     where
-      by : (before : List Event) (x : Event) (after : List Event) → e ∷ events ≡ before ++ (x ∷ after) → P before x → P [] e ⊎ Some (Behind e P) events
+      by : (before : List Event) (x : Event) (after : List Event) → e ∷ events ≡ before ++ (x ∷ after) → P before x → P [] e ⊎ SomeEvent (Behind e P) events
       by [] x after parts h =
           let same : x ≡ e = cc in
           inl (subst (P []) same h)

@@ -1,31 +1,34 @@
 -- Every accepted call returns a sound status.
 use Prim.Native.Nat.{ℕ}
 use mathlib.Core.Path.{◌≡◌, refl, sym, ap, ◌∙◌}
-use mathlib.Core.Bool.{Bool, true, false, false≢true, not, ◌&&◌, ◌||◌, cond, or-true, or-false}
+use mathlib.Core.Bool.{Bool, true, false, false≢true, not, ◌&&◌, ◌||◌, cond}
 use borrow.Author.Tests.{eqb-true, eq-eqb, not-false}
+use Rattle.std.proofs.Common.{arith}
 use Rattle.refusal.specs.Refusal.{first, numbered}
 use Rattle.refusal.proofs.FirstLaws.{first_skip, first_end, first_zero, if_accepted_lem, not_refused}
 use Rattle.base_types.specs.Channel.{channel_of, number_of}
 use Rattle.base_types.specs.declared.id.Slot.{Slot}
 use Rattle.base_types.specs.declared.cycle.Cycle.{Cycle}
-use Rattle.checksum.specs.Pair.{is_none}
+use Rattle.std.specs.Prelude.{Option, Some, None, is_some, is_none}
+use Rattle.std.specs.Option.{option_or}
+use Rattle.checksum.specs.declared.pair.ChecksumPair.{ChecksumPair}
+use Rattle.checksum.specs.Pair as pair
 use Rattle.header.specs.declared.Header.{Header}
 use Rattle.frame.specs.Read.{header_read, refusals_on, rule_on}
 use Rattle.settings.specs.declared.Settings.{Settings}
 use Rattle.settings.specs.Sheet.{first_outside}
-use Rattle.slot.specs.declared.status.Tested.{Tested}
-use Rattle.slot.specs.declared.status.Tested.TheVariants as tested
+use Rattle.slot.specs.declared.status.Miss.{Miss}
 use Rattle.slot.specs.declared.status.Reason.{Reason}
-use Rattle.slot.specs.declared.status.Reason.TheVariants as reason
+use Rattle.slot.specs.declared.status.Reason.TheVariants.{SecondGoodFrame}
 use Rattle.slot.specs.declared.status.Status.{Status}
-use Rattle.slot.specs.Judging.{Place, place_of, place_by, fresh, no_status, first_miss, is_passed, reason_by, is_reason, is_second_good_frame, is_frame, has_arrival}
+use Rattle.slot.specs.Judging.{Place, place_of, place_by, fresh, no_status, first_miss, is_second_good_frame, has_arrival}
 use Rattle.slot.specs.Opening.{opening_refusals, Told}
 use Rattle.slot.specs.Sound.{could_be_read, keeps_well, sound}
-use Rattle.slot_events.specs.Effect.{Event, Brought, arrival, boundary_activity, own_sending, kept_by, is_refused, of_refused, of_accepted, brings, reason_in, joined, after}
+use Rattle.slot_events.specs.Effect.{Event, Brought, arrival, boundary_activity, own_sending, kept_by, reason_by, is_refused, of_refused, of_accepted, brings, reason_in, joined, after}
 use Rattle.slot_events.specs.Events.{event_refusals}
 use Rattle.base_types.proofs.ChannelLaws.{is_a_channel}
 use Rattle.slot_claims.specs.Sound.{NoStatusUnsound, OpenedSound, EventSound}
-use Rattle.numbers.proofs.Truth.{both_true, true_both, true_right}
+use Rattle.numbers.proofs.Truth.{true_both}
 use Rattle.numbers.proofs.Walk.{cases_in}
 use Rattle.slot_claims.proofs.Readable.{read_could}
 use Rattle.slot.proofs.SoundLaws.{clauses, clauses_sound}
@@ -53,9 +56,9 @@ opened_sound settings channel slot cycle r says accepted =
 pub record Fits (p : Place) (b : Brought) : Type 0 where
   pub keeps : keeps_well p b.kept ≡ true
   -- an arrival is refused, misses a test, or passes all
-  pub one : b.refused || (is_reason b.reason || is_frame b.kept) ≡ b.arrived
+  pub one : b.refused || (is_some b.reason || is_some b.kept) ≡ b.arrived
   -- a frame that is kept gives no reason by itself, and none gives (f)
-  pub alone : is_reason b.reason && is_frame b.kept ≡ false
+  pub alone : is_some b.reason && is_some b.kept ≡ false
   pub test : is_second_good_frame b.reason ≡ false
   -- no event is both own sending and an arrival
   pub apart : b.sent && b.arrived ≡ false
@@ -63,10 +66,10 @@ pub record Fits (p : Place) (b : Brought) : Type 0 where
 frame_fits : (p : Place) (h : Header) → could_be_read h ≡ true → Fits p (of_accepted (reason_by (first_miss p h)) (kept_by (first_miss p h) h))
 frame_fits p h could = by (first_miss p h) refl
   where
-    by : (t : Tested) → first_miss p h ≡ t → Fits p (of_accepted (reason_by t) (kept_by t h))
-    by tested.Passed e =
-        record { keeps = true_both (could_be_read h) (is_passed (first_miss p h)) could (ap is_passed e); one = refl; alone = refl; test = refl; apart = refl }
-    by (tested.Missed miss) e = record { keeps = refl; one = refl; alone = refl; test = refl; apart = refl }
+    by : (t : Option Miss) → first_miss p h ≡ t → Fits p (of_accepted (reason_by t) (kept_by t h))
+    by None e =
+        record { keeps = true_both (could_be_read h) (is_none (first_miss p h)) could (ap is_none e); one = refl; alone = refl; test = refl; apart = refl }
+    by (Some miss) e = record { keeps = refl; one = refl; alone = refl; test = refl; apart = refl }
 
 pub fits : (p : Place) (e : Event) → Fits p (brings p e)
 fits p boundary_activity = record { keeps = refl; one = refl; alone = refl; test = refl; apart = refl }
@@ -78,75 +81,47 @@ fits p (arrival bytes) =
     (λ t. record { keeps = refl; one = refl; alone = refl; test = refl; apart = refl })
     (λ t. frame_fits p h (read_could p.channel bytes (eqb-true (first (refusals_on p.channel bytes)) 0 (not-false _ t))))
 
--- the three flags after it: an arrival sets one
-pub has_after : (s : Status) (b : Brought) → Fits (place_of s) b → has_arrival (joined s b) ≡ b.arrived || has_arrival s
-has_after s b f =
-    parted b.refused (is_reason (reason_in s b)) (is_frame b.kept) s.syntax_error s.content_error s.valid
-    ∙ ap (λ (x : Bool). (b.refused || x) || has_arrival s) (as-brought (is_frame b.kept) s.valid b.reason)
-    ∙ ap (λ (x : Bool). x || has_arrival s) f.one
-  where
-    -- a later frame gives a reason, and "valid" as well
-    as-brought : (frame valid : Bool) (r : Reason) → is_reason (cond (frame && valid) reason.SecondGoodFrame r) || frame ≡ is_reason r || frame
-    as-brought true true r = sym (or-true (is_reason r))
-    as-brought true false r = refl
-    as-brought false valid r = refl
+-- the three flags after it: an arrival sets one, and a later frame gives a reason, and "valid" as well
+some_flag : (later : Reason) (reason : Option Reason) (kept : Option Header) (refused arrived syntax content valid : Bool)
+    → refused || (is_some reason || is_some kept) ≡ arrived
+    → (refused || syntax) || ((is_some (cond (is_some kept && valid) (Some later) reason) || content) || (is_some kept || valid))
+    ≡ arrived || (syntax || (content || valid))
+some_flag later reason kept refused arrived syntax content valid one = grind arith
 
-    parted : (r c v syntax content valid : Bool) → (r || syntax) || ((c || content) || (v || valid)) ≡ (r || (c || v)) || (syntax || (content || valid))
-    parted true c v syntax content valid = refl
-    parted false true v true content valid = refl
-    parted false true v false content valid = refl
-    parted false false true true content valid = refl
-    parted false false true false true valid = refl
-    parted false false true false false valid = refl
-    parted false false false syntax content valid = refl
+pub has_after : (s : Status) (b : Brought) → Fits (place_of s) b → has_arrival (joined s b) ≡ b.arrived || has_arrival s
+has_after s b f = some_flag SecondGoodFrame b.reason b.kept b.refused b.arrived s.syntax_error s.content_error s.valid f.one
 
 conflict_after : (arrived sent own has : Bool) → sent && arrived ≡ false
     → arrived && own || (sent && has || own && has) ≡ (sent || own) && (arrived || has)
-conflict_after true true own has e = absurd (false≢true (sym e))
-conflict_after true false true has e = refl
-conflict_after true false false has e = refl
-conflict_after false true true true e = refl
-conflict_after false true true false e = refl
-conflict_after false true false true e = refl
-conflict_after false true false false e = refl
-conflict_after false false own has e = refl
+conflict_after arrived sent own has apart = grind arith
 
--- the first of two that is there is there if one of them is, and has what both have
-module _ {A : Type 0} (is : A → Bool) (old new : A) where
-  first_is : is (cond (is old) old new) ≡ is new || is old
-  first_is =
-      cases_in (λ b. is (cond b old new) ≡ is new || b) (is old) (λ t. t ∙ sym (or-true (is new))) (λ t. sym (or-false (is new)))
+-- the first of two that is there is there if one of them is, and is well kept if both are
+first_is : {A : Type 0} (old new : Option A) → is_some (option_or old new) ≡ is_some new || is_some old
+first_is old new = grind arith
 
-  first_has : (has : A → Bool) → has old ≡ true → has new ≡ true → has (cond (is old) old new) ≡ true
-  first_has has eo en = cases_in (λ b. has (cond b old new) ≡ true) (is old) (λ t. eo) (λ t. en)
+first_well : (p : Place) (old new : Option Header) → keeps_well p old ≡ true → keeps_well p new ≡ true → keeps_well p (option_or old new) ≡ true
+first_well p None new eo en = en
+first_well p (Some h) new eo en = eo
 
 -- (f) is given only where a frame passes and "valid" stood before it
+later_only : (later : Bool) (reason : Option Reason) → is_second_good_frame reason ≡ false
+    → is_second_good_frame (cond later (Some SecondGoodFrame) reason) ≡ true → later ≡ true
+later_only later reason test e = grind arith
+
 pub second_given : (s : Status) (b : Brought) → is_second_good_frame b.reason ≡ false
-    → is_second_good_frame (reason_in s b) ≡ true → is_frame b.kept && s.valid ≡ true
-second_given s b test = by (is_frame b.kept && s.valid)
-  where
-    by : (later : Bool) → is_second_good_frame (cond later reason.SecondGoodFrame b.reason) ≡ true → later ≡ true
-    by true e = refl
-    by false e = absurd (false≢true (sym test ∙ e))
+    → is_second_good_frame (reason_in s b) ≡ true → is_some b.kept && s.valid ≡ true
+second_given s b test e = later_only (is_some b.kept && s.valid) b.reason test e
 
 -- (f) stands where it stood, or where it is given; "valid" stood before in both
-second_after : (s : Status) (b : Brought) → (is_second_good_frame s.reason ≡ true → s.valid ≡ true) → is_second_good_frame b.reason ≡ false
-    → is_second_good_frame (joined s b).reason ≡ true → (joined s b).valid ≡ true
-second_after s b before test t = true_right (is_frame b.kept) s.valid (stood (is_reason s.reason) t)
-  where
-    stood : (old : Bool) → is_second_good_frame (cond old s.reason (reason_in s b)) ≡ true → s.valid ≡ true
-    stood true e = before e
-    stood false e = (both_true (is_frame b.kept) s.valid (second_given s b test e)).1
+second_after : (kept valid : Bool) (old reason : Option Reason) → (is_second_good_frame old ≡ true → valid ≡ true)
+    → is_second_good_frame reason ≡ false
+    → is_second_good_frame (option_or old (cond (kept && valid) (Some SecondGoodFrame) reason)) ≡ true → kept || valid ≡ true
+second_after kept valid old reason before test e = grind arith
 
 -- two checksums stand where they stood, or where an arrival is refused; "syntax error" stands in both
-checksums_after : (s : Status) (b : Brought) → (not (is_none s.checksums) ≡ true → s.syntax_error ≡ true)
-    → not (is_none (joined s b).checksums) ≡ true → (joined s b).syntax_error ≡ true
-checksums_after s b before = by b.refused s.syntax_error before
-  where
-    by : (refused syntax : Bool) → (not (is_none s.checksums) ≡ true → syntax ≡ true)
-        → not (is_none (cond (refused && not syntax) b.checksums s.checksums)) ≡ true → refused || syntax ≡ true
-    by true syntax before t = refl
-    by false syntax before t = before t
+checksums_after : (refused syntax : Bool) (new old : ChecksumPair) → (not (pair.is_none old) ≡ true → syntax ≡ true)
+    → not (pair.is_none (cond (refused && not syntax) new old)) ≡ true → refused || syntax ≡ true
+checksums_after refused syntax new old before e = grind arith
 
 joined_sound : (s : Status) (b : Brought) → sound s ≡ true → Fits (place_of s) b → sound (joined s b) ≡ true
 joined_sound s b good f =
@@ -154,11 +129,11 @@ joined_sound s b good f =
     clauses_sound (joined s b)
     (record {
       opens = c.opens;
-      content = ap (◌||◌ (is_reason (reason_in s b))) c.content ∙ sym (first_is is_reason s.reason (reason_in s b));
-      valid = ap (◌||◌ (is_frame b.kept)) c.valid ∙ sym (first_is is_frame s.kept b.kept);
-      keeps = first_has is_frame s.kept b.kept (keeps_well (place_of s)) c.keeps f.keeps;
-      second = second_after s b c.second f.test;
-      checksums = checksums_after s b c.checksums;
+      content = ap (◌||◌ (is_some (reason_in s b))) c.content ∙ sym (first_is s.reason (reason_in s b));
+      valid = ap (◌||◌ (is_some b.kept)) c.valid ∙ sym (first_is s.kept b.kept);
+      keeps = first_well (place_of s) s.kept b.kept c.keeps f.keeps;
+      second = second_after (is_some b.kept) s.valid s.reason b.reason c.second f.test;
+      checksums = checksums_after b.refused s.syntax_error b.checksums s.checksums c.checksums;
       conflict =
           ap (λ (x : Bool). b.arrived && s.own_sending || (b.sent && has_arrival s || x)) c.conflict
           ∙ conflict_after b.arrived b.sent s.own_sending (has_arrival s) f.apart

@@ -1,13 +1,8 @@
 -- What each witness shows, from the statements of the entries that it calls.
-use Prim.Native.Nat.{ℕ, ◌+◌, ◌-◌, ◌<◌, ◌≤◌, min}
+use Prim.Native.Nat.{ℕ}
 use mathlib.Core.Path.{◌≡◌, refl, sym, ap, ◌∙◌, subst}
 use mathlib.Core.Bool.{false}
 use mathlib.Core.List.{List, [], ◌∷◌}
-use native.Mathlib.Omega.{arith}
-use borrow.Author.Tests.{leb-true, leb-false}
-use lib.Dec.{leb}
-use lib.ListN.{length, take, drop, length-drop, drop_of_length-le}
-use lib.Seq.{take_all, drop-drop}
 use Rattle.numbers.proofs.Walk.{cases}
 use Rattle.refusal.specs.Refusal.{first}
 use Rattle.refusal.proofs.FirstLaws.{if_accepted_lem}
@@ -15,13 +10,11 @@ use Rattle.base_types.specs.declared.id.Slot.{Slot}
 use Rattle.base_types.specs.declared.cycle.Cycle.{Cycle}
 use Rattle.settings.specs.declared.Settings.{Settings}
 use Rattle.slot.specs.declared.status.Status.{Status}
-use Rattle.slot.specs.declared.opening.Opened.{Opened}
 use Rattle.slot.specs.Judging.{place_by, fresh, no_status}
-use Rattle.slot.specs.Opening.{opening_refusals, Told, told, OpenSays}
+use Rattle.slot.specs.Opening.{opening_refusals, Told, told, Opened, OpenSays}
 use Rattle.slot.specs.Sound.{sound}
-use Rattle.slot_events.specs.declared.Judged.{Judged}
 use Rattle.slot_events.specs.Effect.{Event, after}
-use Rattle.slot_events.specs.Events.{event_refusals, left_by, EventSays}
+use Rattle.slot_events.specs.Events.{event_refusals, left_by, Judged, EventSays}
 use Rattle.slot_events.proofs.EventLaws as laws
 use Rattle.settings_claims.specs.Sheet.{TypedSettings, FieldTold}
 use Rattle.slot_claims.specs.Histories.{Calls}
@@ -65,7 +58,7 @@ left s (e ∷ events) = left (left_by s e) events
 
 -- there is a result that the statement allows
 judged : (s : Status) (e : Event) → (r : Judged) × EventSays s e r
-judged s e = cases (sound s) (λ good. (_, laws.event_recorded s e (after s e) good refl)) (λ bad. (_, laws.event_refused s e bad))
+judged s e = cases (sound s) (λ good. (_, laws.event_recorded s e good)) (λ bad. (_, laws.event_refused s e bad))
 
 left_calls : (s : Status) (events : List Event) → Calls s events (left s events)
 unfolding left
@@ -83,44 +76,17 @@ left_unsound s (e ∷ events) bad =
     ap (λ (x : Status). left x events) same ∙ left_unsound s events bad
 
 pub was_played : (settings : Settings) (channel : ℕ) (slot : Slot) (cycle : Cycle) (r : Opened) (events : List Event) (s : Status)
-    → OpenSays settings channel slot cycle r → left r.status events ≡ s → Played settings channel slot cycle events s
+    → OpenSays settings channel slot cycle r → left r.state events ≡ s → Played settings channel slot cycle events s
 was_played settings channel slot cycle r events s says end =
     let number : (told r.answer).number ≡ first (opening_refusals settings channel slot cycle) = ap (λ (t : Told). t.number) says.answers in
     record {
       opened =
           λ none.
           (histories settings channel slot cycle r says (number ∙ none) events s
-          (subst (Calls r.status events) end (left_calls r.status events))
+          (subst (Calls r.state events) end (left_calls r.state events))
           ).1;
       refused =
           λ some.
-          let none : r.status ≡ no_status = open_refused settings channel slot cycle r says (λ e. some (sym number ∙ e)) in
-          sym end ∙ left_unsound r.status events (ap sound none ∙ no_status_unsound) ∙ none;
+          let none : r.state ≡ no_status = open_refused settings channel slot cycle r says (λ e. some (sym number ∙ e)) in
+          sym end ∙ left_unsound r.state events (ap sound none ∙ no_status_unsound) ∙ none;
     }
-
--- ---- the bytes of one event
-
--- no more than there are
-shorter : (size : ℕ) (l : List ℕ) → (take (min size (length l)) l ≡ take size l) × (drop (min size (length l)) l ≡ drop size l)
-shorter size l =
-    cases (leb size (length l))
-    (λ t.
-    let n : min size (length l) ≡ size = omega (arith, leb-true size (length l) t) in
-    (ap (λ (k : ℕ). take k l) n, ap (λ (k : ℕ). drop k l) n))
-    (λ t.
-    let h : length l < size = leb-false size (length l) t in (
-      take_all (min size (length l)) l (omega arith) ∙ sym (take_all size l (omega arith)),
-      drop_of_length-le l {i = min size (length l)} (omega arith) ∙ sym (drop_of_length-le l {i = size} (omega arith)),
-    ))
-
--- a piece that begins at a place and has so many bytes, or as many as are left
-module _ (bytes : List ℕ) (at size : ℕ) (within : at ≤ length bytes) where
-  pub piece : take (min (at + size) (length bytes) - at) (drop at bytes) ≡ take size (drop at bytes)
-  piece =
-      let n : min (at + size) (length bytes) - at ≡ min size (length (drop at bytes)) = omega (arith, length-drop at bytes) in
-      ap (λ (k : ℕ). take k (drop at bytes)) n ∙ (shorter size (drop at bytes)).0
-
-  pub behind : drop (min (at + size) (length bytes)) bytes ≡ drop size (drop at bytes)
-  behind =
-      let n : min (at + size) (length bytes) ≡ at + min size (length (drop at bytes)) = omega (arith, length-drop at bytes) in
-      ap (λ (k : ℕ). drop k bytes) n ∙ sym (drop-drop (min size (length (drop at bytes))) at bytes) ∙ (shorter size (drop at bytes)).1

@@ -7,14 +7,12 @@ use Rattle.base_types.specs.declared.id.Slot.{Slot}
 use Rattle.base_types.specs.declared.cycle.Cycle.{Cycle}
 use Rattle.settings.specs.declared.Settings.{Settings}
 use Rattle.slot.specs.declared.status.Status.{Status}
-use Rattle.slot.specs.declared.opening.Opened.{Opened}
 use Rattle.slot.specs.Judging.{no_status}
 use Rattle.slot.specs.Opening as opening
-use Rattle.slot.specs.Opening.{opening_refusals, OpenSays}
-use Rattle.slot_events.specs.declared.Judged.{Judged}
+use Rattle.slot.specs.Opening.{opening_refusals, Opened, OpenSays}
 use Rattle.slot_events.specs.Effect.{Event}
 use Rattle.slot_events.specs.Events as event
-use Rattle.slot_events.specs.Events.{event_refusals, EventSays}
+use Rattle.slot_events.specs.Events.{event_refusals, Judged, EventSays}
 
 -- ---- any two results that a statement allows are equal: answer and whole status
 
@@ -42,8 +40,8 @@ EventInOrder =
 abbrev pub OpenRefused : Type 0
 OpenRefused =
     (settings : Settings) (channel : ℕ) (slot : Slot) (cycle : Cycle) (r : Opened) → OpenSays settings channel slot cycle r
-    → ((opening.told r.answer).number ≡ 0 → ⊥) → r.status ≡ no_status
+    → ((opening.told r.answer).number ≡ 0 → ⊥) → r.state ≡ no_status
 
 abbrev pub EventRefused : Type 0
 EventRefused =
-    (status : Status) (e : Event) (r : Judged) → EventSays status e r → (event.told r.answer ≡ 0 → ⊥) → r.status ≡ status
+    (status : Status) (e : Event) (r : Judged) → EventSays status e r → (event.told r.answer ≡ 0 → ⊥) → r.state ≡ status

@@ -1,11 +1,10 @@
 -- Claims about tests (a) to (e), in words: which test a frame misses first, if any. 01: "tested in this order, the first miss giving a
 -- content reason".
-use Rattle.std.specs.Prelude.{◌<◌, ◌≤◌, ◌≡◌, true, false, ◌⊎◌, ◌↔◌}
+use Rattle.std.specs.Prelude.{◌<◌, ◌≤◌, ◌≡◌, true, false, ◌⊎◌, ◌↔◌, Option, Some, None}
 use Rattle.header.specs.declared.Header.{Header}
 use Rattle.settings.specs.Sheet.{static_payload_words, static_slots}
+use Rattle.slot.specs.declared.status.Miss.{Miss}
 use Rattle.slot.specs.declared.status.Miss.TheVariants.{OtherId, OtherCycle, OtherWords, SyncOrStartup, NullFrame}
-use Rattle.slot.specs.declared.status.Tested.{Tested}
-use Rattle.slot.specs.declared.status.Tested.TheVariants.{Passed, Missed}
 use Rattle.slot.specs.Judging.{Place, first_miss}
 
 -- "static if slot is at most field 11"; any other slot is dynamic.
@@ -34,14 +33,14 @@ pub record Passes (p : Place) (h : Header) : Type 0 where
   pub e : Dynamic p → h.null_frame_bit ≡ true
 
 -- The frame passes all tests, or this is the first that it misses.
-abbrev pub FirstMissed : Place → Header → Tested → Type 0
-FirstMissed p h Passed = Passes p h
-FirstMissed p h (Missed OtherId) = SameId p h → ⊥
-FirstMissed p h (Missed OtherCycle) = SameId p h × (SameCycle p h → ⊥)
-FirstMissed p h (Missed OtherWords) = SameId p h × SameCycle p h × Static p × (h.words ≡ static_payload_words p.settings → ⊥)
-FirstMissed p h (Missed SyncOrStartup) = SameId p h × SameCycle p h × Dynamic p × ((h.sync ≡ true) ⊎ (h.startup ≡ true))
-FirstMissed p h (Missed NullFrame) = SameId p h × SameCycle p h × Dynamic p × (h.sync ≡ false) × (h.startup ≡ false) × (h.null_frame_bit ≡ false)
+abbrev pub FirstMissed : Place → Header → Option Miss → Type 0
+FirstMissed p h None = Passes p h
+FirstMissed p h (Some OtherId) = SameId p h → ⊥
+FirstMissed p h (Some OtherCycle) = SameId p h × (SameCycle p h → ⊥)
+FirstMissed p h (Some OtherWords) = SameId p h × SameCycle p h × Static p × (h.words ≡ static_payload_words p.settings → ⊥)
+FirstMissed p h (Some SyncOrStartup) = SameId p h × SameCycle p h × Dynamic p × ((h.sync ≡ true) ⊎ (h.startup ≡ true))
+FirstMissed p h (Some NullFrame) = SameId p h × SameCycle p h × Dynamic p × (h.sync ≡ false) × (h.startup ≡ false) × (h.null_frame_bit ≡ false)
 
 -- The rule gives what the tests give.
 abbrev pub TestsExactly : Type 0
-TestsExactly = (p : Place) (h : Header) (tested : Tested) → (first_miss p h ≡ tested) ↔ FirstMissed p h tested
+TestsExactly = (p : Place) (h : Header) (missed : Option Miss) → (first_miss p h ≡ missed) ↔ FirstMissed p h missed

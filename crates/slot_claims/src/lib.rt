@@ -2,7 +2,7 @@
 // short functions over the entries, proved from their contracts alone.
 #![tactic(auto)]
 
-ghost use Rattle.std.specs.Prelude.{◌≡◌, true, false, ◌↔◌, ◌+◌, ◌-◌, ◌≤◌, min};
+ghost use Rattle.std.specs.Prelude.{◌≡◌, true, false, ◌↔◌};
 ghost use Rattle.slot_events.specs.Effect.{arrival, boundary_activity, own_sending};
 ghost use Rattle.slot_events.specs.Events.{left_by};
 ghost use Rattle.slot_claims.specs.Sound.{SoundStatus};
@@ -14,6 +14,7 @@ use slot::{Opened, Status};
 use slot_events::Judged;
 
 // Whether a status is sound: exactly where it meets 01's sentence.
+#[tactic(auto, using(crate::proofs::Sound::sound_exactly))]
 pub fn is_sound_in_words(status: Status) -> bool
     ensures { (result ≡ true) ↔ SoundStatus status }
 {
@@ -21,6 +22,7 @@ pub fn is_sound_in_words(status: Status) -> bool
 }
 
 // Whether the all-zero status is sound. It is not.
+#[tactic(auto, using(crate::proofs::SoundCalls::no_status_unsound))]
 pub fn none_is_sound() -> bool
     ensures { result ≡ false }
 {
@@ -28,6 +30,7 @@ pub fn none_is_sound() -> bool
 }
 
 // The answer of opening, with the field that it tells, and the status beside it.
+#[tactic(auto, using(crate::proofs::Witnesses::opened_well))]
 pub fn opened(settings: Settings, channel: u8, slot: Slot, cycle: Cycle) -> Opened
     ensures { OpenedWell settings channel slot cycle result }
 {
@@ -53,59 +56,40 @@ pub fn judged_sending(status: Status) -> Judged
     slot_events::sent(status)
 }
 
-// One event, by its number: 0 is boundary activity, 1 own sending, and any other an arrival.
-fn happened(status: Status, number: u16, bytes: &[u8]) -> Status
-    ensures { result ≡ left_by status (event_of number bytes.now) }
-{
-    if number == 0 {
-        let judged = slot_events::boundary(status);
-        return judged.status;
-    }
-    if number == 1 {
-        let judged = slot_events::sent(status);
-        return judged.status;
-    }
-    let judged = slot_events::arrived(status, bytes);
-    judged.status
+// What happens in a slot.
+#[derive(Clone, Copy)]
+pub enum SlotEvent<'a> {
+    Boundary,
+    Sent,
+    Arrived(&'a [u8]),
 }
 
-// Where an event's bytes end: two fewer than its number behind the place where they begin, or at the end of all bytes.
-fn end_of(at: usize, number: u16, length: usize) -> usize
-    requires { at ≤ length }
-    ensures { result ≡ min (at + (number - 2)) length }
+// The status after one event.
+fn happened(status: Status, event: SlotEvent) -> Status
+    ensures { result ≡ left_by status (event_of event.entry) }
 {
-    if number < 2 {
-        return at;
-    }
-    let size = (number - 2) as usize;
-    if length - at < size {
-        return length;
-    }
-    at + size
+    let judged = match event {
+        SlotEvent::Boundary => slot_events::boundary(status),
+        SlotEvent::Sent => slot_events::sent(status),
+        SlotEvent::Arrived(bytes) => slot_events::arrived(status, bytes),
+    };
+    judged.state
 }
 
-// Opens a slot and lets one event happen for each number; arrivals take their bytes one after the other. The status at the end.
-pub fn played<'a>(
+// Opens a slot and lets the events happen, one after the other. The status at the end.
+#[tactic(auto, using(crate::proofs::Witnesses::was_played))]
+pub fn played(
     settings: Settings,
     channel: u8,
     slot: Slot,
     cycle: Cycle,
-    numbers: &'a [u16],
-    bytes: &'a [u8],
+    events: &[SlotEvent],
 ) -> Status
-    ensures { Played settings channel slot cycle (events_of numbers.now bytes.now) result }
+    ensures { Played settings channel slot cycle (events_of events.now) result }
 {
-    let opened = slot::open_slot(settings, channel, slot, cycle);
-    let mut status = opened.status;
-    let mut i = 0;
-    let mut at = 0;
-    while i < numbers.len() {
-        let number = numbers[i];
-        let end = end_of(at, number, bytes.len());
-        let next = happened(status, number, &bytes[at..end]);
-        status = next;
-        at = end;
-        i += 1;
+    let mut status = slot::open_slot(settings, channel, slot, cycle).state;
+    for event in events {
+        status = happened(status, *event);
     }
     status
 }

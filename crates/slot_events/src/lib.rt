@@ -2,58 +2,47 @@
 //
 // Entries: `arrived` on a status and bytes, `boundary` and `sent` on a status. Each takes whatever comes and gives an answer and
 // a status.
-#![tactic(auto)]
+#![tactic(auto, unfolding(refusal::specs::Refusal::first))]
 
 ghost use Rattle.std.specs.Prelude.{◌≡◌};
-ghost use Rattle.slot_events.specs.declared.Recording.TheVariants.{Recorded, NotSound};
-ghost use Rattle.slot_events.specs.Effect.{arrival, boundary_activity, own_sending, kept_by, of_refused, of_accepted, reason_in, checksums_in, joined};
-ghost use Rattle.slot_events.specs.Events.{told, EventSays};
+ghost use Rattle.slot_events.specs.Effect.{arrival, boundary_activity, own_sending, of_refused, of_accepted, reason_in, joined};
+ghost use Rattle.slot_events.specs.Events.{refusal_number, EventSays};
 
 use checksum::ChecksumPair;
-use frame::Reading;
 use header::Header;
-use slot::{Kept, Reason, Status, Tested};
+use refusal::{Answered, Refusal};
+use slot::{Reason, Status};
 
-// What an event answers: that it is recorded, or that the status is not sound.
+// Refusal 23: the status that was handed in is not sound.
 #[derive(Clone, Copy)]
-pub enum Recording {
-    Recorded,
-    NotSound,
-}
+pub struct NotSound;
 
-impl Recording {
-    // 01's number: 0, or that of the refusal.
-    pub fn number(self) -> u8
-        ensures { result ≡ told self }
-    {
-        match self {
-            Recording::Recorded => 0,
-            Recording::NotSound => 23,
-        }
+impl Refusal for NotSound {
+    ghost number_of = { refusal_number };
+
+    fn number(self) -> u8 {
+        23
     }
 }
 
-#[derive(Clone, Copy)]
-pub struct Judged {
-    pub answer: Recording,
-    pub status: Status,
-}
+// What an event answers, and the status beside it. (Each event asks for soundness by itself: one function that took the event as a closure would
+// have the closure's clauses in its contract.)
+pub type Judged = Answered<(), NotSound, Status>;
 
 // Bytes arrived, any number of them.
 pub fn arrived(status: Status, bytes: &[u8]) -> Judged
     ensures { EventSays status (arrival bytes.now) result }
 {
     if !slot::is_sound(status) {
-        return not_sound(status);
+        return Answered::refused(NotSound, status);
     }
-    let channel = status.channel;
-    let reading = frame::read_on(channel, bytes);
-    let Reading::Accepted(header) = reading else {
-        return recorded(with_refused(status, reading.checksums()));
+    let reading = frame::read_on(status.channel, bytes);
+    let Ok(header) = reading else {
+        return Answered::accepted((), with_refused(status, frame::checksums_told(reading)));
     };
-    let tested = slot::first_miss(status, header);
-    let kept = kept_by(tested, header);
-    recorded(with_accepted(status, tested.reason(), kept))
+    let miss = slot::first_miss(status, header);
+    let kept = miss.is_none().then_some(header);
+    Answered::accepted((), with_accepted(status, miss.map(Reason::Missed), kept))
 }
 
 // Activity at a boundary of the slot.
@@ -61,11 +50,15 @@ pub fn boundary(status: Status) -> Judged
     ensures { EventSays status boundary_activity result }
 {
     if !slot::is_sound(status) {
-        return not_sound(status);
+        return Answered::refused(NotSound, status);
     }
-    let mut next = status;
-    next.boundary_violation = true;
-    recorded(next)
+    Answered::accepted(
+        (),
+        Status {
+            boundary_violation: true,
+            ..status
+        },
+    )
 }
 
 // This node sent in the slot.
@@ -73,103 +66,57 @@ pub fn sent(status: Status) -> Judged
     ensures { EventSays status own_sending result }
 {
     if !slot::is_sound(status) {
-        return not_sound(status);
+        return Answered::refused(NotSound, status);
     }
-    let has_arrival = status.has_arrival();
-    let mut next = status;
-    next.own_sending = true;
-    next.conflict = has_arrival | status.conflict;
-    recorded(next)
+    Answered::accepted(
+        (),
+        Status {
+            own_sending: true,
+            conflict: status.has_arrival() | status.conflict,
+            ..status
+        },
+    )
 }
 
-fn recorded(status: Status) -> Judged
-    ensures { result ≡ record { answer = Recorded; status = status } }
+// The status after an arrival that is refused, by the two checksums that reading tells: those of the first such are kept. It gives no reason
+// and no frame to keep.
+fn with_refused(status: Status, told: ChecksumPair) -> Status
+    ensures { result ≡ joined status (of_refused told) }
 {
-    Judged {
-        answer: Recording::Recorded,
-        status,
+    let checksums = if status.syntax_error {
+        status.checksums
+    } else {
+        told
+    };
+    Status {
+        syntax_error: true,
+        checksums,
+        ..with_accepted(status, None, None)
     }
 }
 
-fn not_sound(handed_in: Status) -> Judged
-    ensures { result ≡ record { answer = NotSound; status = handed_in } }
+// The status after an arrival, by the reason and the frame to keep that it gives.
+fn with_accepted(status: Status, reason: Option<Reason>, kept: Option<Header>) -> Status
+    ensures { result ≡ joined status (of_accepted reason kept) }
 {
-    Judged {
-        answer: Recording::NotSound,
-        status: handed_in,
+    let given = reason_in(status, reason, kept);
+    Status {
+        content_error: given.is_some() | status.content_error,
+        conflict: status.own_sending | status.conflict,
+        valid: kept.is_some() | status.valid,
+        reason: status.reason.or(given),
+        kept: status.kept.or(kept),
+        ..status
     }
-}
-
-// The frame to keep: one that passes all tests.
-fn kept_by(tested: Tested, header: Header) -> Kept
-    ensures { result ≡ kept_by tested header }
-{
-    if !tested.is_passed() {
-        return Kept::Nothing;
-    }
-    Kept::Frame(header)
 }
 
 // The reason that an arrival gives in this slot: that of the test that it misses, or (f) where it passes all and another had passed before
 // it. That one had, "valid" tells, as it stands before this arrival.
-fn reason_in(status: Status, reason: Reason, kept: Kept) -> Reason
+fn reason_in(status: Status, reason: Option<Reason>, kept: Option<Header>) -> Option<Reason>
     ensures { result ≡ reason_in status (of_accepted reason kept) }
 {
-    let is_passed = kept.is_frame();
-    if is_passed & status.valid {
-        return Reason::SecondGoodFrame;
+    if kept.is_some() & status.valid {
+        return Some(Reason::SecondGoodFrame);
     }
     reason
-}
-
-// The two checksums that are kept beside those of an arrival that is refused: those of the first such.
-fn checksums_in(status: Status, told: ChecksumPair) -> ChecksumPair
-    ensures { result ≡ checksums_in status (of_refused told) }
-{
-    if status.syntax_error {
-        return status.checksums;
-    }
-    told
-}
-
-// The status after an arrival that is refused, by the two checksums that reading tells. It gives no reason and no frame to keep.
-fn with_refused(status: Status, told: ChecksumPair) -> Status
-    ensures { result ≡ joined status (of_refused told) }
-{
-    let checksums = checksums_in(status, told);
-    let mut next = with_accepted(status, Reason::NoReason, Kept::Nothing);
-    next.syntax_error = true;
-    next.checksums = checksums;
-    next
-}
-
-// The status after a frame, by the reason of a miss and by the frame to keep.
-fn with_accepted(status: Status, reason: Reason, kept: Kept) -> Status
-    ensures { result ≡ joined status (of_accepted reason kept) }
-{
-    let settings = status.settings;
-    let channel = status.channel;
-    let slot = status.slot;
-    let cycle = status.cycle;
-    let first_reason = status.reason;
-    let first_kept = status.kept;
-    let checksums = status.checksums;
-    let given = reason_in(status, reason, kept);
-    let gives_reason = given.is_reason();
-    let is_passed = kept.is_frame();
-    Status {
-        settings,
-        channel,
-        slot,
-        cycle,
-        syntax_error: status.syntax_error,
-        content_error: gives_reason | status.content_error,
-        boundary_violation: status.boundary_violation,
-        conflict: status.own_sending | status.conflict,
-        valid: is_passed | status.valid,
-        own_sending: status.own_sending,
-        reason: first_reason.or_later(given),
-        kept: first_kept.or_later(kept),
-        checksums,
-    }
 }

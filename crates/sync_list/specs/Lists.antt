@@ -1,5 +1,5 @@
 -- The list of a cycle: its rows, and what a measurement makes of it.
-use Rattle.std.specs.Prelude.{ℕ, suc, Bool, true, false, not, ◌&&◌, ◌||◌, cond, List, [], ◌∷◌, map, eqb, leb, ltb, get_or, replicate, set, take}
+use Rattle.std.specs.Prelude.{ℕ, suc, Bool, true, false, not, ◌&&◌, ◌||◌, cond, List, [], ◌∷◌, map, eqb, leb, get_or, replicate, set, take, Option, None, Some}
 use Rattle.base_types.specs.declared.channel.Channel.{Channel}
 use Rattle.base_types.specs.declared.id.Slot.{Slot}
 use Rattle.correction.specs.Terms.{most_ids}
@@ -14,13 +14,9 @@ use Rattle.sync_list.specs.Rows.{blank, on, is_measured, with_measured}
 abbrev pub row_count : ℕ
 row_count = most_ids
 
--- The rows that are listed: the first so many.
+-- The rows that are listed: the first so many, and all where the count is above them.
 abbrev pub listed : SyncList → List Row
 listed l = take l.count l.rows
-
--- How many these are: all, where the count is above them.
-abbrev pub listed_count : SyncList → ℕ
-listed_count l = cond (ltb l.count row_count) l.count row_count
 
 -- "both lists empty": no row is listed, and all are blank.
 abbrev pub empty : SyncList
@@ -52,6 +48,10 @@ none_twice (x ∷ xs) = not (is_among x xs) && none_twice xs
 
 abbrev pub place_of : Slot → SyncList → ℕ
 place_of id l = place_among id.0 (ids_of (listed l))
+
+-- The place, where the ID is listed.
+abbrev pub place_in : Slot → SyncList → Option ℕ
+place_in id l = cond (is_among id.0 (ids_of (listed l))) (Some (place_of id l)) None
 
 -- A blank row where the ID is not listed.
 abbrev pub row_in : Slot → List Row → Row

@@ -1,9 +1,9 @@
 // A row: an ID, and what was measured of it on each channel.
 ghost use Rattle.std.specs.Prelude.{◌≡◌};
-ghost use Rattle.sync_list.specs.Rows.{is_measured, value_of, blank as rows_blank, on as rows_on, with_measured, deviations_of};
+ghost use Rattle.sync_list.specs.Rows.{blank as rows_blank, on as rows_on, with_measured, deviations_of};
 
 use base_types::{Channel, SignedMicrotick, Slot};
-use correction::{Deviations, Value};
+use correction::Deviations;
 use settings::Mark;
 
 #[derive(Clone, Copy)]
@@ -13,42 +13,12 @@ pub struct Measurement {
     pub mark: Mark,
 }
 
-#[derive(Clone, Copy)]
-pub enum Measured {
-    Nothing,
-    Is(Measurement),
-}
-
+// An ID, and what was measured of it on each channel. (No array: 01 and the rules name each channel.)
 #[derive(Clone, Copy)]
 pub struct Row {
     pub id: Slot,
-    pub on_a: Measured,
-    pub on_b: Measured,
-}
-
-impl Measured {
-    // A measurement, and not the absence of one.
-    pub fn is_measured(self) -> bool
-        ensures { result ≡ is_measured self }
-    {
-        match self {
-            Measured::Nothing => false,
-            Measured::Is(_) => true,
-        }
-    }
-
-    // Its deviation, where there is one.
-    pub(crate) fn value(self) -> Value
-        ensures { result ≡ value_of self }
-    {
-        match self {
-            Measured::Nothing => Value::Absent,
-            Measured::Is(measurement) => {
-                let deviation = measurement.deviation;
-                Value::Is(deviation)
-            }
-        }
-    }
+    pub on_a: Option<Measurement>,
+    pub on_b: Option<Measurement>,
 }
 
 impl Row {
@@ -58,20 +28,18 @@ impl Row {
     {
         Row {
             id,
-            on_a: Measured::Nothing,
-            on_b: Measured::Nothing,
+            on_a: None,
+            on_b: None,
         }
     }
 
     // What was measured on a channel.
-    pub(crate) fn on(self, channel: Channel) -> Measured
+    pub(crate) fn on(self, channel: Channel) -> Option<Measurement>
         ensures { result ≡ rows_on channel self }
     {
-        let on_a = self.on_a;
-        let on_b = self.on_b;
         match channel {
-            Channel::A => on_a,
-            Channel::B => on_b,
+            Channel::A => self.on_a,
+            Channel::B => self.on_b,
         }
     }
 
@@ -79,20 +47,14 @@ impl Row {
     pub(crate) fn with(self, channel: Channel, measurement: Measurement) -> Row
         ensures { result ≡ with_measured channel measurement self }
     {
-        let id = self.id;
-        let on_a = self.on_a;
-        let on_b = self.on_b;
-        let measured = Measured::Is(measurement);
         match channel {
             Channel::A => Row {
-                id,
-                on_a: measured,
-                on_b,
+                on_a: Some(measurement),
+                ..self
             },
             Channel::B => Row {
-                id,
-                on_a,
-                on_b: measured,
+                on_b: Some(measurement),
+                ..self
             },
         }
     }
@@ -100,11 +62,9 @@ impl Row {
     pub fn deviations(self) -> Deviations
         ensures { result ≡ deviations_of self }
     {
-        let on_a = self.on_a;
-        let on_b = self.on_b;
         Deviations {
-            on_a: on_a.value(),
-            on_b: on_b.value(),
+            on_a: self.on_a.map(|measurement| measurement.deviation),
+            on_b: self.on_b.map(|measurement| measurement.deviation),
         }
     }
 }

@@ -1,3 +1,2 @@
 pub mod PackingLaws
 pub mod EncodeLaws
-pub mod AnswerLaws

@@ -23,11 +23,11 @@ unfolding tens
 length-tens [] = refl
 length-tens (byte ∷ bytes) = ap suc (length-tens bytes)
 
-pub ten_of_byte : (bytes : List ℕ) (i : ℕ) → i < length bytes → get_or (tens bytes) i 0 ≡ 512 + get_or bytes i 0
+pub ten_of_byte : (bytes : List ℕ) (i other : ℕ) → i < length bytes → get_or (tens bytes) i 0 ≡ 512 + get_or bytes i other
 unfolding tens
-ten_of_byte [] i h = absurd (omega arith)
-ten_of_byte (byte ∷ bytes) zero h = refl
-ten_of_byte (byte ∷ bytes) (suc i) h = ten_of_byte bytes i (omega arith)
+ten_of_byte [] i other h = absurd (omega arith)
+ten_of_byte (byte ∷ bytes) zero other h = refl
+ten_of_byte (byte ∷ bytes) (suc i) other h = ten_of_byte bytes i other (omega arith)
 
 pub ten_of_end : (bytes : List ℕ) (i : ℕ) → i ≡ length bytes → get_or (tens bytes) i 0 ≡ 256
 unfolding tens

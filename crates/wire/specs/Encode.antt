@@ -1,25 +1,47 @@
 -- The entry `encode`: what it answers, and what it leaves in the output.
-use Rattle.std.specs.Prelude.{ℕ, ◌≡◌, List, [], ◌∷◌, ◌++◌, length}
+use Rattle.std.specs.Prelude.{ℕ, ◌≡◌, List, [], ◌∷◌, ◌++◌, length, Result, Ok, Err}
+use Rattle.std.specs.Result.{result_unwrap_or}
+use Rattle.refusal.specs.Answer.{number_in}
 use Rattle.refusal.specs.Refusal.{Line, ◌when◌, first, if_accepted}
 use Rattle.lent_bytes.specs.Over.{over}
+use Rattle.checksum.specs.declared.pair.ChecksumPair.{ChecksumPair}
+use Rattle.checksum.specs.Pair.{no_checksums}
 use Rattle.frame.specs.Read as read
-use Rattle.wire.specs.declared.Encoding.{Encoding}
-use Rattle.wire.specs.declared.Encoding.TheVariants.{Encoded, NotAFrame, NotAStartLength, OutputTooShort}
+use Rattle.wire.specs.declared.EncodeRefusal.{EncodeRefusal}
+use Rattle.wire.specs.declared.EncodeRefusal.TheVariants.{NotAFrame, NotAStartLength, OutputTooShort}
 use Rattle.wire.specs.Stream.{stream}
 use Rattle.wire.specs.Packing.{packed}
 use Rattle.wire.specs.Refusals.{not_a_start_length, output_too_short}
 
--- What an answer says in 01's numbers. What is refused is told as reading tells it, with all that reading tells beside a number; beside
--- 24 and 25, and beside 0, which is no refusal, it is the number alone. With it comes the number of bits, 0 with a refusal.
+-- What an answer says in 01's numbers: the refusal number, 0 for none, the checksums that were found and worked out, and the number of
+-- bits, 0 with a refusal.
 pub record Told : Type 0 where
-  pub refusal : read.Told
+  pub number : ℕ
+  pub checksums : ChecksumPair
   pub bits : ℕ
 
+-- The number of each refusal. What reading refuses has reading's.
+abbrev pub number_of : EncodeRefusal → ℕ
+number_of (NotAFrame refusal) = read.number_of refusal
+number_of NotAStartLength = 24
+number_of OutputTooShort = 25
+
+-- The two checksums that each tells: what reading refuses is told as reading tells it, and 24 and 25 tell none.
+abbrev pub checksums_of : EncodeRefusal → ChecksumPair
+checksums_of (NotAFrame refusal) = read.checksums_of refusal
+checksums_of NotAStartLength = no_checksums
+checksums_of OutputTooShort = no_checksums
+
+-- An answer is the number of bits, or why there are none.
+abbrev pub Encoding : Type 0
+Encoding = Result ℕ EncodeRefusal
+
+abbrev pub checksums_in : Encoding → ChecksumPair
+checksums_in (Ok count) = no_checksums
+checksums_in (Err refusal) = checksums_of refusal
+
 abbrev pub told : Encoding → Told
-told (Encoded count) = record { refusal = read.refused 0; bits = count }
-told (NotAFrame reading) = record { refusal = read.told reading; bits = 0 }
-told NotAStartLength = record { refusal = read.refused 24; bits = 0 }
-told OutputTooShort = record { refusal = read.refused 25; bits = 0 }
+told answer = record { number = number_in number_of answer; checksums = checksums_in answer; bits = result_unwrap_or answer 0 }
 
 -- The refusals of the entry, in their order: "after the read refusals 1 to 8 of the frame bytes" 24 and 25.
 abbrev pub own_refusals : List ℕ → ℕ → List ℕ → List Line
@@ -31,13 +53,12 @@ refusals channel bytes start output = read.refusals channel bytes ++ own_refusal
 abbrev pub refusal : ℕ → List ℕ → ℕ → List ℕ → ℕ
 refusal channel bytes start output = first (refusals channel bytes start output)
 
--- What is right for this channel number, these frame bytes, this start length and the output as it was. Where reading refuses the bytes,
--- it is what reading tells of them.
+-- What is right for this channel number, these frame bytes, this start length and the output as it was. The checksums are those that
+-- reading tells of the bytes: none where it accepts them.
 abbrev pub rule : ℕ → List ℕ → ℕ → List ℕ → Told
 rule channel bytes start output =
-    let reading = read.rule channel bytes in
     let n = refusal channel bytes start output in
-    record { refusal = if_accepted reading.number (read.refused n) reading; bits = if_accepted n (length (stream start bytes)) 0 }
+    record { number = n; checksums = (read.rule channel bytes).checksums; bits = if_accepted n (length (stream start bytes)) 0 }
 
 -- The whole output afterwards: the packed stream over its front ("Later bytes stay"), or, with a refusal, as it was.
 abbrev pub encoded : ℕ → List ℕ → ℕ → List ℕ → List ℕ

@@ -11,7 +11,7 @@ const BYTE_START: u32 = 0b10_0000_0000;
 // "at the end a low and a high bit", with eight low ones behind them, of which the spare bits of the last byte are some.
 const END: u32 = 0b01_0000_0000;
 
-// Bits that have been taken and not been written yet.
+// Bits that have been taken and not been written yet. (A number and a count: they are bits, of which no slice is made.)
 #[derive(Clone, Copy)]
 struct Pending {
     // Their number: they are its low bits, the first one highest. What stands above them is not looked at.
@@ -34,30 +34,30 @@ pub(crate) fn pack(start: u8, bytes: &[u8], output: &mut [u8])
         count: start as usize + 1,
         taken: 0,
     };
-    let mut i = 0;
-    while i < output.len() {
-        pending = filled(pending, bytes);
+    for slot in output.iter_mut() {
+        pending = pending.filled(bytes);
         let rest = pending.count - 8;
-        output[i] = ((pending.held >> rest) % 256) as u8;
+        *slot = ((pending.held >> rest) % 256) as u8;
         pending.count = rest;
-        i += 1;
     }
 }
 
-// Takes ten bits where there are fewer than eight: behind these, which are among the low eight of what is held.
-fn filled(pending: Pending, bytes: &[u8]) -> Pending
-    requires bytes_len_bound { (length bytes.now ≤ longest_frame) × (pending.count ≤ 17) × (pending.taken ≤ length (tens bytes.now)) }
-    requires taken_in_bounds { pending.count < 8 → pending.taken ≤ length bytes.now }
-    ensures { Filled pending bytes.now result }
-{
-    if 8 <= pending.count {
-        return pending;
-    }
-    let next = ten(bytes, pending.taken);
-    Pending {
-        held: pending.held % 256 * 1024 + next,
-        count: pending.count + 10,
-        taken: pending.taken + 1,
+impl Pending {
+    // Takes ten bits where there are fewer than eight: behind these, which are among the low eight of what is held.
+    fn filled(self, bytes: &[u8]) -> Pending
+        requires bytes_len_bound { (length bytes.now ≤ longest_frame) × (self.count ≤ 17) × (self.taken ≤ length (tens bytes.now)) }
+        requires taken_in_bounds { self.count < 8 → self.taken ≤ length bytes.now }
+        ensures { Filled self bytes.now result }
+    {
+        if 8 <= self.count {
+            return self;
+        }
+        let next = ten(bytes, self.taken);
+        Pending {
+            held: self.held % 256 * 1024 + next,
+            count: self.count + 10,
+            taken: self.taken + 1,
+        }
     }
 }
 
@@ -67,8 +67,8 @@ fn ten(bytes: &[u8], i: usize) -> u32
     ensures value { result ≡ get_or (tens bytes.now) i 0 }
     ensures upper_bound { result < 1024 }
 {
-    if bytes.len() <= i {
-        return END;
+    match bytes.get(i) {
+        Some(byte) => BYTE_START + *byte as u32,
+        None => END,
     }
-    BYTE_START + bytes[i] as u32
 }

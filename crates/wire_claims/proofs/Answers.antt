@@ -7,79 +7,60 @@ use native.Mathlib.Omega.{arith}
 use borrow.Author.Tests.{ltb-true, ltb-false, ne_eqb}
 use lib.Dec.{eqb, ltb}
 use lib.ListN.{length}
+use Rattle.std.specs.Prelude.{Ok, Err}
 use Rattle.numbers.proofs.Truth.{neither}
 use Rattle.refusal.specs.Refusal.{◌when◌, first, numbered}
-use Rattle.refusal.proofs.FirstLaws.{told_in_order, if_accepted_lem, if_refused, first_in_front, first_past, below, first_below}
-use Rattle.header.specs.Layout.{longest_frame}
+use Rattle.refusal.proofs.AnswerLaws.{one_answer}
+use Rattle.refusal.proofs.FirstLaws.{told_in_order, if_refused, first_in_front, first_past, below, first_below}
+use Rattle.header.specs.Layout.{longest_frame, no_header}
 use Rattle.frame.specs.Read as read
-use Rattle.frame.proofs.AnswerLaws.{number_at_most}
+use Rattle.frame.proofs.AnswerLaws.{refusal_in_range}
 use Rattle.frame.proofs.ReadLaws.{accepted_size}
 use Rattle.frame_claims.proofs.Answers.{reading_by, reading_by_lem}
-use Rattle.wire.specs.declared.Encoding.{Encoding}
-use Rattle.wire.specs.declared.Encoding.TheVariants as encoding
+use Rattle.wire.specs.declared.EncodeRefusal.TheVariants.{NotAFrame, NotAStartLength, OutputTooShort}
 use Rattle.wire.specs.Stream.{shortest_start, longest_start, stream}
 use Rattle.wire.specs.Packing.{packed_size, most_packed}
 use Rattle.wire.specs.Refusals.{not_a_start_length, output_too_short}
-use Rattle.wire.specs.Encode.{Told, told, own_refusals, refusal, rule, EncodeSays}
+use Rattle.wire.specs.Encode.{Told, Encoding, told, own_refusals, refusal, EncodeSays}
 use Rattle.wire.proofs.PackingLaws.{length-stream}
 use Rattle.wire.proofs.EncodeLaws.{not_a_frame, past-reading}
 use Rattle.wire_claims.specs.Answers.{EncodeOne, EncodeInOrder, EncodeRefused, EncodeAsRead, RoomForAll}
 
--- ---- the number
-
-module _ (channel : ℕ) (bytes : List ℕ) (start : ℕ) (output : List ℕ) where
-  -- that of the order, also where it is told with reading's answer
-  number_is : (rule channel bytes start output).refusal.number ≡ refusal channel bytes start output
-  number_is = by (first (read.refusals channel bytes)) refl
-    where
-      by : (n : ℕ) → first (read.refusals channel bytes) ≡ n → (rule channel bytes start output).refusal.number ≡ refusal channel bytes start output
-      by zero e = ap (λ (t : read.Told). t.number) (if_accepted_lem _ _ _ e)
-      by (suc n) e =
-          let some : first (read.refusals channel bytes) ≡ 0 → ⊥ = λ z. omega arith in
-          ap (λ (t : read.Told). t.number) (if_refused _ _ _ some)
-          ∙ sym (first_in_front (read.refusals channel bytes) (own_refusals bytes start output) some)
-
-  pub told_number : {after : List ℕ} (r : Encoding) → EncodeSays channel bytes start output after r
-      → (told r).refusal.number ≡ refusal channel bytes start output
-  told_number r h = ap (λ (t : Told). t.refusal.number) h.answers ∙ number_is
+-- the number is that of the order
+pub told_number : (channel : ℕ) (bytes : List ℕ) (start : ℕ) (output : List ℕ) {after : List ℕ} (r : Encoding)
+    → EncodeSays channel bytes start output after r → (told r).number ≡ refusal channel bytes start output
+told_number channel bytes start output r h = ap (λ (t : Told). t.number) h.answers
 
 -- ---- one answer
 
+-- what reading refuses is refused
+passed_on : read.Reading → Encoding
+passed_on (Ok header) = Ok 0
+passed_on (Err refused) = Err (NotAFrame refused)
+
 encoding_by : Told → Encoding
 encoding_by t =
-    cond (eqb t.refusal.number 24) encoding.NotAStartLength
-    (cond (eqb t.refusal.number 25) encoding.OutputTooShort
-    (cond (eqb t.bits 0) (encoding.NotAFrame (reading_by t.refusal)) (encoding.Encoded t.bits)))
+    cond (eqb t.number 0) (Ok t.bits)
+    (cond (eqb t.number 24) (Err NotAStartLength)
+    (cond (eqb t.number 25) (Err OutputTooShort)
+    (passed_on (reading_by (record { number = t.number; header = no_header; checksums = t.checksums })))))
 
-encoding_by_lem : (r : Encoding) → (r ≡ encoding.Encoded 0 → ⊥) → encoding_by (told r) ≡ r
-unfolding encoding_by
-encoding_by_lem (encoding.Encoded zero) h = absurd (h refl)
-encoding_by_lem (encoding.Encoded (suc n)) h = rw (ne_eqb (suc n) 0 (λ e. omega arith))
-encoding_by_lem (encoding.NotAFrame r) h =
-    let small = number_at_most r in
-    rw (ne_eqb (read.told r).number 24 (λ e. omega arith), ne_eqb (read.told r).number 25 (λ e. omega arith))
-    (ap encoding.NotAFrame (reading_by_lem r))
-encoding_by_lem encoding.NotAStartLength h = refl
-encoding_by_lem encoding.OutputTooShort h = refl
-
--- there is no stream of 0 bits
-not_encoded_0 : (channel : ℕ) (bytes : List ℕ) (start : ℕ) (before after : List ℕ) (r : Encoding)
-    → EncodeSays channel bytes start before after r → r ≡ encoding.Encoded 0 → ⊥
-not_encoded_0 channel bytes start before after r h e =
-    let none : refusal channel bytes start before ≡ 0 =
-    sym (told_number channel bytes start before r h) ∙ ap (λ (x : Encoding). (told x).refusal.number) e in
-    let no_bits : 0 ≡ length (stream start bytes) =
-    sym (ap (λ (x : Encoding). (told x).bits) e) ∙ ap (λ (t : Told). t.bits) h.answers
-    ∙ if_accepted_lem _ _ _ none in
-    omega (arith, no_bits, length-stream start bytes)
+encoding_by_lem : (r : Encoding) → encoding_by (told r) ≡ r
+unfolding encoding_by passed_on
+encoding_by_lem (Ok count) = refl
+encoding_by_lem (Err (NotAFrame r)) =
+    let range = refusal_in_range r in
+    rw (
+      ne_eqb (read.number_of r) 0 (λ e. omega arith),
+      ne_eqb (read.number_of r) 24 (λ e. omega arith),
+      ne_eqb (read.number_of r) 25 (λ e. omega arith),
+    ) (ap passed_on (reading_by_lem (Err r)))
+encoding_by_lem (Err NotAStartLength) = refl
+encoding_by_lem (Err OutputTooShort) = refl
 
 pub encode_one : EncodeOne
-encode_one channel bytes start before after after' r s hr hs = (
-  sym (encoding_by_lem r (not_encoded_0 channel bytes start before after r hr))
-      ∙ ap encoding_by (hr.answers ∙ sym hs.answers)
-      ∙ encoding_by_lem s (not_encoded_0 channel bytes start before after' s hs),
-  hr.writes ∙ sym hs.writes,
-)
+encode_one channel bytes start before after after' r s hr hs =
+    (one_answer told encoding_by encoding_by_lem r s hr.answers hs.answers, hr.writes ∙ sym hs.writes)
 
 -- ---- in order
 
@@ -97,8 +78,8 @@ encode_refused channel bytes start before after r h refused =
     )
 
 pub encode_as_read : EncodeAsRead
-encode_as_read channel bytes start before after r h reading says refused =
-    (encode_one channel bytes start before after before r (encoding.NotAFrame reading) h (not_a_frame channel bytes start before reading says refused)).0
+encode_as_read channel bytes start before after r h refused says =
+    (encode_one channel bytes start before after before r (Err (NotAFrame refused)) h (not_a_frame channel bytes start before refused says)).0
 
 -- ---- room
 

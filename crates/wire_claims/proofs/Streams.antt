@@ -21,12 +21,11 @@ use Rattle.lent_bytes.proofs.OverLaws.{take-over, drop-over, length_over}
 use Rattle.frame.specs.Read as read
 use Rattle.frame.specs.Read.{header_read, payload_read}
 use Rattle.frame_claims.proofs.Exact.{frame_of_lem, frame_none}
-use Rattle.wire.specs.declared.Encoding.{Encoding}
-use Rattle.wire.specs.declared.Encoding.TheVariants.{Encoded}
+use Rattle.std.specs.Prelude.{Ok}
 use Rattle.wire.specs.Stream.{low, high, coded, shortest_start, longest_start, stream}
 use Rattle.wire.specs.Packing.{packed_size, spare_bits, packed}
 use Rattle.wire.specs.Refusals.{not_a_start_length, output_too_short}
-use Rattle.wire.specs.Encode.{Told, told, own_refusals, refusals, refusal}
+use Rattle.wire.specs.Encode.{Told, Encoding, told, own_refusals, refusals, refusal}
 use Rattle.wire.proofs.PackingLaws.{length-stream, length-packed}
 use Rattle.wire.proofs.EncodeLaws.{past-reading, encode-accepted}
 use Rattle.wire_claims.specs.Streams.{bits_of, StreamLength, StreamTells, Encodable, EncodeExactly, Laid, EncodeLays}
@@ -115,7 +114,7 @@ room_of bytes start before = ltb-false (length before) (packed_size (length (str
 
 pub encode_lays : EncodeLays
 encode_lays channel bytes start before after count h =
-    let none : refusal channel bytes start before ≡ 0 = sym (told_number channel bytes start before (Encoded count) h) in
+    let none : refusal channel bytes start before ≡ 0 = sym (told_number channel bytes start before (Ok count) h) in
     let s = stream start bytes in (
       ap (λ (t : Told). t.bits) h.answers ∙ if_accepted_lem _ _ _ none ∙ length-stream start bytes,
       laid_over start bytes before after (room_of bytes start before (none_refused channel bytes start before none).2)
@@ -150,8 +149,8 @@ accepted channel bytes start before f =
 pub encode_exactly : EncodeExactly
 encode_exactly channel bytes start before after r are h = (
   λ e. encodable channel bytes start before are
-      (sym (told_number channel bytes start before r h) ∙ ap (λ (x : Encoding). (told x).refusal.number) e),
+      (sym (told_number channel bytes start before r h) ∙ ap (λ (x : Encoding). (told x).number) e),
   λ f. let none = accepted channel bytes start before f in
-      (encode_one channel bytes start before after _ r (Encoded (bits_of start bytes)) h
+      (encode_one channel bytes start before after _ r (Ok (bits_of start bytes)) h
       (encode-accepted channel bytes start before none.0 _ (bits_of start bytes) none.1 (sym (length-stream start bytes)) refl)).0,
 )

@@ -9,15 +9,14 @@ use borrow.Author.Tests.{eqb-false, not-true, ne_eqb}
 use lib.Dec.{eqb}
 use Rattle.numbers.proofs.Truth.{both_true, true_both}
 use Rattle.division.specs.Bits.{AreBytes}
-use Rattle.wire.specs.declared.Encoding.{Encoding}
-use Rattle.wire.specs.Encode.{told, refusal, EncodeSays}
+use Rattle.wire.specs.Encode.{Encoding, told, refusal, EncodeSays}
 use Rattle.wire_claims.specs.Answers.{NumberTold}
 use Rattle.wire_claims.specs.Streams.{bits_of, Encodable, Laid, EncodedBits, ToldApart}
 use Rattle.wire_claims.proofs.Answers.{told_number, encode_in_order, encode_refused}
 use Rattle.wire_claims.proofs.Streams.{stream_tells, encode_lays, encodable, encode_exactly}
 
 module _ (channel : ℕ) (bytes : List ℕ) (start : ℕ) (before after : List ℕ) (r : Encoding) (says : EncodeSays channel bytes start before after r) where
-  pub number_told : NumberTold channel bytes start before after (told r).refusal.number
+  pub number_told : NumberTold channel bytes start before after (told r).number
   number_told =
       record {
         order = encode_in_order channel bytes start before after r says;

@@ -1,11 +1,9 @@
 -- Claims about the bits of a frame, and about what encoding leaves of them in the output.
-use Rattle.std.specs.Prelude.{ℕ, ◌+◌, ◌*◌, ◌-◌, ◌<◌, ◌≤◌, ◌≡◌, List, ◌↔◌, length, take, drop, replicate}
+use Rattle.std.specs.Prelude.{ℕ, ◌+◌, ◌*◌, ◌-◌, ◌<◌, ◌≤◌, ◌≡◌, List, ◌↔◌, length, take, drop, replicate, Ok}
 use Rattle.division.specs.Bits.{bytes_bits, AreBytes}
 use Rattle.frame_claims.specs.Exact.{IsFrame}
-use Rattle.wire.specs.declared.Encoding.{Encoding}
-use Rattle.wire.specs.declared.Encoding.TheVariants.{Encoded}
 use Rattle.wire.specs.Stream.{low, stream}
-use Rattle.wire.specs.Encode.{EncodeSays}
+use Rattle.wire.specs.Encode.{Encoding, EncodeSays}
 
 -- "For n bytes and t start bits that is t + 10n + 3 bits".
 abbrev pub bits_of : ℕ → List ℕ → ℕ
@@ -32,7 +30,7 @@ abbrev pub EncodeExactly : Type 0
 EncodeExactly =
     (channel : ℕ) (bytes : List ℕ) (start : ℕ) (before after : List ℕ) (r : Encoding)
     → AreBytes bytes → EncodeSays channel bytes start before after r
-    → (r ≡ Encoded (bits_of start bytes)) ↔ Encodable channel bytes start before
+    → (r ≡ Ok (bits_of start bytes)) ↔ Encodable channel bytes start before
 
 -- ---- what lies in the output
 
@@ -49,7 +47,7 @@ pub record Laid (start : ℕ) (bytes before after : List ℕ) : Type 0 where
 abbrev pub EncodeLays : Type 0
 EncodeLays =
     (channel : ℕ) (bytes : List ℕ) (start : ℕ) (before after : List ℕ) (count : ℕ)
-    → EncodeSays channel bytes start before after (Encoded count) → (count ≡ bits_of start bytes) × Laid start bytes before after
+    → EncodeSays channel bytes start before after (Ok count) → (count ≡ bits_of start bytes) × Laid start bytes before after
 
 -- ---- what the witnesses show
 

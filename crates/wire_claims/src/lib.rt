@@ -6,23 +6,25 @@ ghost use Rattle.std.specs.Prelude.{◌≡◌, true, ◌↔◌};
 ghost use Rattle.wire_claims.specs.Answers.{AsReadAnswers, NumberTold};
 ghost use Rattle.wire_claims.specs.Streams.{EncodedBits, Encodable, ToldApart};
 
+use refusal::Answer;
 use wire::Encoding;
 
 // The number that encoding gives: the first of its order whose condition holds. With any but 0 the output is as it was.
+// (A number: what is claimed here is of the number and the output.)
 pub fn encode_number(channel: u8, bytes: &[u8], start: u8, output: &mut [u8]) -> u8
     ensures { NumberTold channel bytes.now start output.old output.new result }
 {
     wire::encode(channel, bytes, start, output).number()
 }
 
-// The answer: where reading refuses the bytes, reading's own.
+// The answer: where reading refuses the bytes, with reading's own refusal.
 pub fn answered(channel: u8, bytes: &[u8], start: u8, output: &mut [u8]) -> Encoding
     ensures { AsReadAnswers channel bytes.now result }
 {
     wire::encode(channel, bytes, start, output)
 }
 
-// Encodes with output of the size that the crate names, and answers the number. It is never 25.
+// Encodes with output of the size that the crate names, and answers the number, of which the claim speaks. It is never 25.
 pub fn number_with_room(channel: u8, bytes: &[u8], start: u8) -> u8
     ensures { result ≡ 25 → ⊥ }
 {
@@ -30,11 +32,11 @@ pub fn number_with_room(channel: u8, bytes: &[u8], start: u8) -> u8
     wire::encode(channel, bytes, start, &mut output).number()
 }
 
-// Encodes a frame and answers the number of bits; 0 where nothing was encoded.
+// Encodes a frame and answers the number of bits; 0 where nothing was encoded. (A number: the claim is of how many bits lie there.)
 pub fn encoded(channel: u8, bytes: &[u8], start: u8, output: &mut [u8]) -> usize
     ensures { EncodedBits channel bytes.now start output.old output.new result }
 {
-    wire::encode(channel, bytes, start, output).bits()
+    wire::encode(channel, bytes, start, output).unwrap_or(0)
 }
 
 // Whether both frames, each on its channel and with its start length, are encoded. Then their bits tell them apart.

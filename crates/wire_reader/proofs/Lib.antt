@@ -4,4 +4,3 @@ pub mod PhaseLaws
 pub mod SoundLaws
 pub mod PieceLaws
 pub mod ListenLaws
-pub mod AnswerLaws

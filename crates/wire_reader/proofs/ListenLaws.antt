@@ -1,27 +1,14 @@
--- What an entry answers, by the refusal that its tests came to.
+-- What `listen` answers, by the refusal that its tests came to.
 use Prim.Native.Nat.{ℕ, suc}
 use mathlib.Core.Path.{◌≡◌, sym, ap, ◌∙◌}
 use mathlib.Core.List.{List}
-use Rattle.refusal.specs.Refusal.{first, if_accepted}
-use Rattle.base_types.specs.Channel.{channel_of}
-use Rattle.wire_reader.specs.declared.opening.Opening.{Opening}
-use Rattle.wire_reader.specs.declared.listening.Listening.{Listening}
+use Rattle.refusal.specs.Refusal.{if_accepted}
 use Rattle.wire_reader.specs.declared.listening.Listened.{Listened}
 use Rattle.wire_reader.specs.declared.reader.Reader.{Reader}
 use Rattle.wire_reader.specs.Decoder as decoder
-use Rattle.wire_reader.specs.Reader.{fresh_reader, no_reader, reader_of}
-use Rattle.wire_reader.specs.Opening as opening
-use Rattle.wire_reader.specs.Listening.{told, heard, refusal, ListenSays}
+use Rattle.wire_reader.specs.Reader.{reader_of}
+use Rattle.wire_reader.specs.Listening.{Listening, told, heard, refusal, ListenSays}
 use Rattle.wire_reader.specs.Pending.{TakeSays}
-
-pub open_says : (channel n : ℕ) (answer : Opening) (reader : Reader) → first (opening.opening_refusals channel) ≡ n
-    → opening.told answer ≡ n → reader ≡ if_accepted n (fresh_reader (channel_of channel)) no_reader
-    → opening.OpenSays channel (record { answer = answer; reader = reader })
-open_says channel n answer reader e t r =
-    record {
-      answers = t ∙ sym e;
-      leaves = r ∙ ap (λ (k : ℕ). if_accepted k (fresh_reader (channel_of channel)) no_reader) (sym e);
-    }
 
 module _ (reader : Reader) (samples before : List ℕ) where
   pub listen_refused : (n : ℕ) (answer : Listening) (r : Listened) → refusal reader before ≡ suc n

@@ -1,5 +1,5 @@
 -- A piece of samples, one by one.
-use Prim.Native.Nat.{ℕ, suc, ◌+◌, ◌<◌, ◌≤◌}
+use Prim.Native.Nat.{ℕ, suc, ◌+◌, ◌<◌}
 use mathlib.Core.Path.{◌≡◌, refl, sym, ap, ◌∙◌}
 use mathlib.Core.Bool.{true, false, false≢true}
 use mathlib.Core.List.{List, map}
@@ -10,9 +10,9 @@ use lib.Seq.{drop-cons}
 use Rattle.base_types.specs.declared.channel.Channel.{Channel}
 use Rattle.wire_reader.specs.Decoder.{Told, nothing, frame, wrong, is_nothing}
 use Rattle.wire_reader.specs.Reader.{State, Step, Piece, or_else, step, piece, state_of, reader_of}
-use Rattle.wire_reader.specs.declared.event.Event.{Event}
+use Rattle.wire_reader.specs.Event.{Event}
 use Rattle.wire_reader.specs.declared.reader.Reader.{Reader}
-use Rattle.wire_reader.specs.declared.listening.Listening.TheVariants.{Heard}
+use Rattle.std.specs.Prelude.{is_some, None, Some, Ok, Err}
 use Rattle.wire_reader.specs.declared.listening.Listened.{Listened}
 use Rattle.wire_reader.specs.Listening.{is_high, told_by, told}
 use Rattle.wire_reader.specs.Pending.{TakeSays}
@@ -65,18 +65,28 @@ module _ (channel : Channel) (s after : State) (samples : List ℕ) (i : ℕ) (t
       ∙ ap (added i) (sym (turn channel s samples i (record { state = after; told = t }) h e))
 
 -- no sample is left
-pub none_left : (channel : Channel) (s : State) (samples : List ℕ) (i : ℕ) → length samples ≤ i
-    → record { taken = i; state = s; told = nothing } ≡ added i (piece channel s (map is_high (drop i samples)))
+pub none_left : (channel : Channel) (s : State) (samples : List ℕ) (i : ℕ) → i ≡ length samples
+    → record { taken = length samples; state = s; told = nothing } ≡ added i (piece channel s (map is_high (drop i samples)))
 unfolding piece
 none_left channel s samples i h =
     ap (λ (k : ℕ). record { taken = k; state = s; told = nothing }) (omega arith)
-    ∙ ap (λ (l : List ℕ). added i (piece channel s (map is_high l))) (sym (drop_of_length-le samples {i = i} h))
+    ∙ ap (λ (l : List ℕ). added i (piece channel s (map is_high l))) (sym (drop_of_length-le samples {i = i} (omega arith)))
 
 -- ---- what is said of it
 
+-- an event tells something, or it is none
+pub told_some : (event : Event) → is_some event ≡ true → is_nothing (told_by event) ≡ false
+told_some None e = absurd (false≢true e)
+told_some (Some (Ok heard)) e = refl
+told_some (Some (Err error)) e = refl
+
+pub told_none : (event : Event) → is_some event ≡ false → is_nothing (told_by event) ≡ true
+told_none None e = refl
+told_none (Some told) e = absurd (false≢true (sym e))
+
 -- what was taken is the piece
 pub take-says : (channel : Channel) (reader : Reader) (memory : List ℕ) (event : Event) (n : ℕ) (p : Piece) (r : Listened)
-    → r ≡ record { answer = Heard event; taken = n; reader = reader }
+    → r ≡ record { answer = Ok event; taken = n; reader = reader }
     → record { taken = n; state = state_of reader memory; told = told_by event } ≡ p → reader.channel ≡ channel
     → TakeSays channel p memory r
 take-says channel reader memory event n p r h e c =

@@ -1,19 +1,21 @@
 -- The entry `listen`: what it answers, the reader that comes back, and what it leaves in the memory.
-use Rattle.std.specs.Prelude.{ℕ, ◌≡◌, Bool, not, List, [], ◌∷◌, map, eqb, ltb, length}
+use Rattle.std.specs.Prelude.{ℕ, ◌≡◌, Bool, not, List, [], ◌∷◌, map, eqb, ltb, length, Some, None, Result, Ok, Err}
+use Rattle.std.specs.Result.{result_unwrap_or}
+use Rattle.refusal.specs.Answer as answers
 use Rattle.refusal.specs.Refusal.{Line, ◌when◌, first, if_accepted}
 use Rattle.checksum.specs.declared.pair.ChecksumPair.{ChecksumPair}
 use Rattle.checksum.specs.Pair.{no_checksums}
 use Rattle.header.specs.Layout.{longest_frame}
 use Rattle.frame.specs.Read as read
-use Rattle.wire_reader.specs.declared.event.Event.{Event}
-use Rattle.wire_reader.specs.declared.event.Event.TheVariants as event
-use Rattle.wire_reader.specs.declared.listening.Listening.{Listening}
-use Rattle.wire_reader.specs.declared.listening.Listening.TheVariants as listening
+use Rattle.wire_reader.specs.declared.event.WireError.{WireError}
+use Rattle.wire_reader.specs.declared.listening.ListenRefusal.{ListenRefusal}
+use Rattle.wire_reader.specs.declared.listening.ListenRefusal.TheVariants.{NotSound, MemoryTooShort}
 use Rattle.wire_reader.specs.declared.listening.Listened.{Listened}
 use Rattle.wire_reader.specs.declared.reader.Reader.{Reader}
 use Rattle.wire_reader.specs.Decoder as decoder
 use Rattle.wire_reader.specs.Reader.{Piece, piece, state_of, reader_of}
 use Rattle.wire_reader.specs.Sound.{sound}
+use Rattle.wire_reader.specs.Event.{Event, number_of, checksums_of}
 
 -- "0 is low", and every other sample is high.
 abbrev pub is_high : ℕ → Bool
@@ -21,17 +23,15 @@ is_high sample = not (eqb sample 0)
 
 -- ---- what is told
 
+-- What is wrong, as reading would tell it.
+abbrev pub error_told : WireError → read.Told
+error_told error = read.refused_with (number_of error) (checksums_of error)
+
 -- What an event says in 01's numbers, as the rule of a bit tells it.
 abbrev pub told_by : Event → decoder.Told
-told_by event.Nothing = decoder.nothing
-told_by (event.Frame heard) = decoder.frame heard.header heard.size heard.since
-told_by (event.NotAFrame reading) = decoder.wrong (read.told reading)
-told_by event.StartTooLong = decoder.wrong (read.refused 30)
-told_by event.FrameStartTooLong = decoder.wrong (read.refused 31)
-told_by event.ByteStartNotHigh = decoder.wrong (read.refused 32)
-told_by event.ByteStartNotLow = decoder.wrong (read.refused 33)
-told_by event.EndNotLow = decoder.wrong (read.refused 34)
-told_by event.EndNotHigh = decoder.wrong (read.refused 35)
+told_by None = decoder.nothing
+told_by (Some (Ok heard)) = decoder.frame heard.header heard.size heard.since
+told_by (Some (Err error)) = decoder.wrong (error_told error)
 
 -- The number of an event: 0, or that of the error.
 abbrev pub number_in : decoder.Told → ℕ
@@ -50,10 +50,17 @@ pub record Told : Type 0 where
   pub refusal : ℕ
   pub event : decoder.Told
 
+-- An answer is what was heard, or why nothing was listened to.
+abbrev pub Listening : Type 0
+Listening = Result Event ListenRefusal
+
+-- The number of each refusal.
+abbrev pub refusal_number : ListenRefusal → ℕ
+refusal_number NotSound = 23
+refusal_number MemoryTooShort = 36
+
 abbrev pub told : Listening → Told
-told (listening.Heard event) = record { refusal = 0; event = told_by event }
-told listening.NotSound = record { refusal = 23; event = decoder.nothing }
-told listening.MemoryTooShort = record { refusal = 36; event = decoder.nothing }
+told answer = record { refusal = answers.number_in refusal_number answer; event = told_by (result_unwrap_or answer None) }
 
 -- ---- the refusals
 

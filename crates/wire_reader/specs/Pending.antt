@@ -1,11 +1,11 @@
 -- What the functions inside say of a bit, of a sample and of a piece, in the terms of the rules.
-use Rattle.std.specs.Prelude.{ℕ, ◌≤◌, ◌≡◌, cond, List}
+use Rattle.std.specs.Prelude.{ℕ, ◌≤◌, ◌≡◌, cond, List, Result, Ok, Err}
 use Rattle.base_types.specs.declared.channel.Channel.{Channel}
+use Rattle.frame.specs.declared.ReadRefusal.{ReadRefusal}
+use Rattle.frame.specs.declared.ReadRefusal.TheVariants.{HeaderChecksumDiffers}
 use Rattle.wire_reader.specs.declared.phase.Phase.{Phase}
 use Rattle.wire_reader.specs.declared.phase.Phase.TheVariants.{Waiting, Start, FrameStart, ByteStart, ByteStartLow, Byte, End, EndHigh}
 use Rattle.wire_reader.specs.declared.decoder.Decoded as code
-use Rattle.wire_reader.specs.declared.decoder.After.{After}
-use Rattle.wire_reader.specs.declared.decoder.After.TheVariants as after
 use Rattle.wire_reader.specs.declared.reader.Sampled.{Sampled}
 use Rattle.wire_reader.specs.declared.listening.Listened.{Listened}
 use Rattle.wire_reader.specs.Decoder.{Decoded, header_wrong, checksums_of, complete}
@@ -16,13 +16,13 @@ use Rattle.wire_reader.specs.Listening.{told_by, told}
 abbrev pub decoded_by : code.Decoded → List ℕ → Decoded
 decoded_by d memory =
     record {
-      place = record { phase = d.phase; count = d.count; since = d.since; memory = memory };
+      place = record { phase = d.phase; count = d.bytes.count; since = d.bytes.since; memory = memory };
       told = told_by d.event;
     }
 
--- What stands behind these bytes of a frame.
-abbrev pub after_of : List ℕ → After
-after_of bytes = cond (header_wrong bytes) (after.HeaderWrong (checksums_of bytes)) (cond (complete bytes) after.End after.ByteStart)
+-- The phase behind these bytes of a frame, or what is wrong with them.
+abbrev pub after_of : List ℕ → Result Phase ReadRefusal
+after_of bytes = cond (header_wrong bytes) (Err (HeaderChecksumDiffers (checksums_of bytes))) (Ok (cond (complete bytes) End ByteStart))
 
 -- A bit needs room: for the byte that it may end, and for the bits of that byte.
 abbrev pub most_bytes : Phase → ℕ

@@ -1,50 +1,43 @@
 // From bits to frames: what each strobed bit means.
-ghost use Rattle.std.specs.Prelude.{◌≡◌, ◌+◌, ◌<◌, ◌≤◌, length, take, set};
-ghost use Rattle.division.specs.Bits.{bit as bits_bit};
+ghost use Rattle.std.specs.Prelude.{◌≡◌, ◌+◌, ◌<◌, ◌≤◌, length, take, set, None, Some, Err};
 ghost use Rattle.frame.specs.Read.{rule_on};
 ghost use Rattle.header.specs.Layout.{longest_frame};
 ghost use Rattle.wire_reader.specs.Pending.{decoded_by, after_of, RoomFor};
 ghost use Rattle.wire_reader.specs.declared.phase.Phase.TheVariants.{Waiting};
-ghost use Rattle.wire_reader.specs.declared.event.Event.TheVariants.{Nothing};
 ghost use Rattle.wire_reader.specs.Sound.{most_before};
 ghost use Rattle.wire_reader.specs.Decoder.{behind_byte, judged, decoded};
 
-use crate::event::{Event, Heard};
+use crate::event::{Event, Heard, WireError};
 use crate::phase::{MOST_HIGH, MOST_LOW, Phase};
 use base_types::Channel;
-use checksum::ChecksumPair;
-use frame::Reading;
+use frame::ReadRefusal;
 
-// What comes of a strobed bit. The memory is the caller's.
+// How many bytes of a frame have come, and the samples since its reference point. The bytes are the first of the caller's memory.
+#[derive(Clone, Copy)]
+pub(crate) struct Bytes {
+    pub count: u16,
+    pub since: u32,
+}
+
+// What comes of a strobed bit.
 #[derive(Clone, Copy)]
 pub(crate) struct Decoded {
     pub phase: Phase,
-    pub count: u16,
-    pub since: u32,
+    pub bytes: Bytes,
     pub event: Event,
 }
 
-// What stands behind a byte.
-#[derive(Clone, Copy)]
-pub(crate) enum After {
-    // With the two checksums, which differ.
-    HeaderWrong(ChecksumPair),
-    End,
-    ByteStart,
-}
-
-// After a bit, by phase. `idle` tells that the channel is idle at its strobe; `since` is with its sample.
+// After a bit, by phase. `idle` tells that the channel is idle at its strobe; the samples since the reference point count that of this bit.
 pub(crate) fn decode(
     channel: Channel,
     phase: Phase,
     bit: bool,
     idle: bool,
-    count: u16,
-    since: u32,
+    bytes: Bytes,
     memory: &mut [u8],
 ) -> Decoded
-    requires { (longest_frame ≤ length memory.old) × RoomFor phase count }
-    ensures { decoded_by result memory.new ≡ decoded phase bit channel idle count since memory.old }
+    requires { (longest_frame ≤ length memory.old) × RoomFor phase bytes.count }
+    ensures { decoded_by result memory.new ≡ decoded phase bit channel idle bytes.count bytes.since memory.old }
 {
     match phase {
         Phase::Waiting => {
@@ -64,7 +57,7 @@ pub(crate) fn decode(
             if n < MOST_LOW {
                 entered(Phase::Start(n + 1))
             } else {
-                failed(Event::StartTooLong)
+                failed(WireError::StartTooLong)
             }
         }
         Phase::FrameStart(n) => {
@@ -74,140 +67,143 @@ pub(crate) fn decode(
             if n < MOST_HIGH {
                 entered(Phase::FrameStart(n + 1))
             } else {
-                failed(Event::FrameStartTooLong)
+                failed(WireError::FrameStartTooLong)
             }
         }
         Phase::ByteStart => {
             if bit {
-                moved(Phase::ByteStartLow, count, since)
+                bytes.moved_to(Phase::ByteStartLow)
             } else {
-                failed(Event::ByteStartNotHigh)
+                failed(WireError::ByteStartNotHigh)
             }
         }
         Phase::ByteStartLow => {
             if bit {
-                failed(Event::ByteStartNotLow)
+                failed(WireError::ByteStartNotLow)
             } else {
-                moved(Phase::Byte(0, 0), count, since)
+                bytes.moved_to(Phase::Byte(0, 0))
             }
         }
         Phase::Byte(n, value) => {
-            let more = value * 2 + one(bit);
+            let more = value * 2 + u8::from(bit);
             if n < 7 {
-                return moved(Phase::Byte(n + 1, more), count, since);
+                return bytes.moved_to(Phase::Byte(n + 1, more));
             }
-            end_byte(more, count, since, memory)
+            bytes.with(more, memory)
         }
         Phase::End => {
             if bit {
-                return failed(Event::EndNotLow);
+                return failed(WireError::EndNotLow);
             }
-            judge(channel, count, since, memory)
+            bytes.judged(channel, memory)
         }
         Phase::EndHigh => {
             if bit {
                 entered(Phase::Waiting)
             } else {
-                failed(Event::EndNotHigh)
+                failed(WireError::EndNotHigh)
             }
         }
     }
 }
 
-// After the last bit of a byte.
-fn end_byte(value: u8, count: u16, since: u32, memory: &mut [u8]) -> Decoded
-    requires { (longest_frame ≤ length memory.old) × (count ≤ most_before) }
-    ensures { decoded_by result memory.new ≡ behind_byte (count + 1) since (set memory.old count value) }
-{
-    memory[count as usize] = value;
-    let size = count + 1;
-    match after_byte(&memory[0..size as usize]) {
-        After::HeaderWrong(checksums) => {
-            failed(Event::NotAFrame(Reading::HeaderChecksumDiffers(checksums)))
+impl Bytes {
+    // No byte, and no reference point.
+    const NONE: Bytes = Bytes { count: 0, since: 0 };
+
+    // On to a phase with these bytes.
+    fn moved_to(self, phase: Phase) -> Decoded
+        ensures { result ≡ record { phase = phase; bytes = self; event = None } }
+    {
+        Decoded {
+            phase,
+            bytes: self,
+            event: None,
         }
-        After::End => moved(Phase::End, size, since),
-        After::ByteStart => moved(Phase::ByteStart, size, since),
+    }
+
+    // After the last bit of one more byte.
+    fn with(self, value: u8, memory: &mut [u8]) -> Decoded
+        requires { (longest_frame ≤ length memory.old) × (self.count ≤ most_before) }
+        ensures { decoded_by result memory.new ≡ behind_byte (self.count + 1) self.since (set memory.old self.count value) }
+    {
+        memory[self.count as usize] = value;
+        let count = self.count + 1;
+        match behind(&memory[..count as usize]) {
+            Ok(phase) => Bytes {
+                count,
+                since: self.since,
+            }
+            .moved_to(phase),
+            Err(refusal) => failed(WireError::NotAFrame(refusal)),
+        }
+    }
+
+    // At the low bit of the end: reading decides.
+    fn judged(self, channel: Channel, memory: &[u8]) -> Decoded
+        requires { self.count ≤ length memory.now }
+        ensures { decoded_by result memory.now ≡ judged (rule_on channel (take self.count memory.now)) self.count self.since memory.now }
+    {
+        let size = self.count as usize;
+        match frame::read_on(channel, &memory[..size]) {
+            Ok(header) => told(
+                Phase::EndHigh,
+                Ok(Heard {
+                    header,
+                    size,
+                    since: self.since,
+                }),
+            ),
+            Err(refusal) => failed(WireError::NotAFrame(refusal)),
+        }
     }
 }
 
-// What stands behind the last of these bytes of a frame.
-fn after_byte(bytes: &[u8]) -> After
+// The phase behind these bytes of a frame, or what is wrong with them.
+fn behind(bytes: &[u8]) -> Result<Phase, ReadRefusal>
     ensures { result ≡ after_of bytes.now }
 {
     if bytes.len() < 5 {
-        return After::ByteStart;
+        return Ok(Phase::ByteStart);
     }
-    let sent = lent_bytes::number_in(&bytes[0..5]);
+    let sent = lent_bytes::number_in(&bytes[..5]);
     let header = header::unpacked(sent);
     let size = 8 + 2 * header.words as usize;
     if bytes.len() == 5 {
         let checksums = header::checksums_of(sent);
-        if checksums.found != checksums.expected {
-            return After::HeaderWrong(checksums);
+        if checksums.differ() {
+            return Err(ReadRefusal::HeaderChecksumDiffers(checksums));
         }
-        return After::ByteStart;
+        return Ok(Phase::ByteStart);
     }
     if size <= bytes.len() {
-        After::End
+        Ok(Phase::End)
     } else {
-        After::ByteStart
+        Ok(Phase::ByteStart)
     }
 }
 
-// At the low bit of the end: reading decides.
-fn judge(channel: Channel, count: u16, since: u32, memory: &[u8]) -> Decoded
-    requires { count ≤ length memory.now }
-    ensures { decoded_by result memory.now ≡ judged (rule_on channel (take count memory.now)) count since memory.now }
-{
-    let size = count as usize;
-    let reading = frame::read_on(channel, &memory[0..size]);
-    let Reading::Accepted(header) = reading else {
-        return failed(Event::NotAFrame(reading));
-    };
-    Decoded {
-        phase: Phase::EndHigh,
-        count: 0,
-        since: 0,
-        event: Event::Frame(Heard {
-            header,
-            size,
-            since,
-        }),
-    }
-}
-
-fn moved(phase: Phase, count: u16, since: u32) -> Decoded
-    ensures { result ≡ record { phase = phase; count = count; since = since; event = Nothing } }
-{
-    Decoded {
-        phase,
-        count,
-        since,
-        event: Event::Nothing,
-    }
-}
-
-// To a phase without bytes, or to the first byte: no count, and no samples since the reference point.
+// To a phase without bytes, or to the first byte.
 fn entered(phase: Phase) -> Decoded
-    ensures { result ≡ record { phase = phase; count = 0; since = 0; event = Nothing } }
+    ensures { result ≡ record { phase = phase; bytes = record { count = 0; since = 0 }; event = None } }
 {
-    moved(phase, 0, 0)
+    Bytes::NONE.moved_to(phase)
 }
 
 // An error ends the frame, and the reader waits.
-fn failed(event: Event) -> Decoded
-    ensures { result ≡ record { phase = Waiting; count = 0; since = 0; event = event } }
+fn failed(error: WireError) -> Decoded
+    ensures { result ≡ record { phase = Waiting; bytes = record { count = 0; since = 0 }; event = Some (Err error) } }
 {
-    Decoded {
-        phase: Phase::Waiting,
-        count: 0,
-        since: 0,
-        event,
-    }
+    told(Phase::Waiting, Err(error))
 }
 
-fn one(set: bool) -> u8
-    ensures { (result ≡ bits_bit set) × (result < 2) }
+// What a frame that has ended tells.
+fn told(phase: Phase, what: Result<Heard, WireError>) -> Decoded
+    ensures { result ≡ record { phase = phase; bytes = record { count = 0; since = 0 }; event = Some what } }
 {
-    if set { 1 } else { 0 }
+    Decoded {
+        phase,
+        bytes: Bytes::NONE,
+        event: Some(what),
+    }
 }

@@ -7,7 +7,7 @@
 // A host opens a reader for each wire, and lends it the same memory with each call. It hands in what its recorder delivered, and, as long as a
 // call tells something, the samples that were not taken; the reader that comes back is handed in with the next call.
 //
-// Flags are joined by `&` and `|`: the prover follows them more easily than `&&` and `||`.
+// Flags are joined by `&` and `|`: of a chain of `&&` the search stops at a limit, and a sample has no branch by them.
 #![tactic(auto)]
 
 mod decoder;
@@ -17,8 +17,8 @@ mod opening;
 mod phase;
 mod reader;
 
-pub use event::{Event, Heard};
-pub use listening::{Listened, Listening, listen};
-pub use opening::{Opened, Opening, open_reader};
+pub use event::{Event, Heard, WireError};
+pub use listening::{ListenRefusal, Listened, Listening, listen};
+pub use opening::open_reader;
 pub use phase::Phase;
 pub use reader::Reader;

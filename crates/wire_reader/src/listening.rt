@@ -1,48 +1,38 @@
 // Samples listened to.
-ghost use Rattle.std.specs.Prelude.{◌≡◌, true, ◌≤◌, length};
+ghost use Rattle.std.specs.Prelude.{◌≡◌, true, ◌≤◌, length, Ok, Err};
 ghost use Rattle.header.specs.Layout.{longest_frame};
-ghost use Rattle.wire_reader.specs.declared.listening.Listening.TheVariants.{Heard};
 ghost use Rattle.wire_reader.specs.Sound.{sound};
 ghost use Rattle.wire_reader.specs.Pending.{TakeSays};
-ghost use Rattle.wire_reader.specs.Listening.{told_by, told, heard as listening_heard, ListenSays};
+ghost use Rattle.wire_reader.specs.Listening.{refusal_number, heard as listening_heard, ListenSays};
 
 use crate::event::Event;
 use crate::reader;
 use crate::reader::Reader;
 use header::Header;
+use refusal::Refusal;
 
-// What listening answers: what was heard, or why nothing was listened to.
+// What listening answers: what was heard, or why nothing was listened to. An error that was heard is no refusal.
+pub type Listening = Result<Event, ListenRefusal>;
+
 #[derive(Clone, Copy)]
-pub enum Listening {
-    Heard(Event),
+pub enum ListenRefusal {
     NotSound,
     MemoryTooShort,
 }
 
-impl Listening {
-    // 01's number: 0, or that of the refusal. An error that was heard is no refusal: its number is the event's.
-    pub fn number(self) -> u8
-        ensures { result ≡ (told self).refusal }
-    {
-        match self {
-            Listening::Heard(_) => 0,
-            Listening::NotSound => 23,
-            Listening::MemoryTooShort => 36,
-        }
-    }
+impl Refusal for ListenRefusal {
+    ghost number_of = { refusal_number };
 
-    // What was heard, nothing with a refusal.
-    pub fn event(self) -> Event
-        ensures { told_by result ≡ (told self).event }
-    {
-        let Listening::Heard(event) = self else {
-            return Event::Nothing;
-        };
-        event
+    fn number(self) -> u8 {
+        match self {
+            ListenRefusal::NotSound => 23,
+            ListenRefusal::MemoryTooShort => 36,
+        }
     }
 }
 
-// How many samples were taken, the one that told something among them, and the reader behind them.
+// How many samples were taken, the one that told something among them, and the reader behind them. (Not `Answered`: with a refusal too it tells how
+// many were taken, none.)
 #[derive(Clone, Copy)]
 pub struct Listened {
     pub answer: Listening,
@@ -59,49 +49,46 @@ pub fn listen(reader: Reader, samples: &[u8], memory: &mut [u8]) -> Listened
     let is_not_sound = !reader.is_sound();
     let is_too_short = memory.len() < Header::LONGEST_FRAME;
     if is_not_sound {
-        return refused(Listening::NotSound, reader);
+        return refused(ListenRefusal::NotSound, reader);
     }
     if is_too_short {
-        return refused(Listening::MemoryTooShort, reader);
+        return refused(ListenRefusal::MemoryTooShort, reader);
     }
     take(reader, samples, memory)
 }
 
-fn refused(answer: Listening, handed_in: Reader) -> Listened
-    ensures { result ≡ record { answer = answer; taken = 0; reader = handed_in } }
+fn refused(refusal: ListenRefusal, handed_in: Reader) -> Listened
+    ensures { result ≡ record { answer = Err refusal; taken = 0; reader = handed_in } }
 {
     Listened {
-        answer,
+        answer: Err(refusal),
         taken: 0,
         reader: handed_in,
     }
 }
 
-// Takes samples, up to the first that tells something.
+// Takes samples, up to the first that tells something. (That the memory takes the longest frame is asked by each function down to the decoder:
+// a slice of just that size would hide the bytes behind it, of which the rule says that they stay.)
 fn take(reader: Reader, samples: &[u8], memory: &mut [u8]) -> Listened
     requires { (sound reader ≡ true) × (longest_frame ≤ length memory.old) }
     ensures { TakeSays reader.channel (listening_heard reader samples.now memory.old) memory.new result }
 {
     let mut state = reader;
-    let mut i = 0;
-    while i < samples.len() {
-        let s = reader::sample(state, samples[i] != 0, memory);
-        let next = s.reader;
-        let event = s.event;
-        state = next;
-        i += 1;
-        if !event.is_nothing() {
-            return heard(event, i, state);
+    for (i, level) in samples.iter().enumerate() {
+        let s = reader::sample(state, *level != 0, memory);
+        state = s.reader;
+        if s.event.is_some() {
+            return heard(s.event, i + 1, state);
         }
     }
-    heard(Event::Nothing, i, state)
+    heard(None, samples.len(), state)
 }
 
 fn heard(event: Event, taken: usize, reader: Reader) -> Listened
-    ensures { result ≡ record { answer = Heard event; taken = taken; reader = reader } }
+    ensures { result ≡ record { answer = Ok event; taken = taken; reader = reader } }
 {
     Listened {
-        answer: Listening::Heard(event),
+        answer: Ok(event),
         taken,
         reader,
     }

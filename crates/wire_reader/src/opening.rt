@@ -1,47 +1,16 @@
 // A reader opened.
-ghost use Rattle.std.specs.Prelude.{◌≡◌};
-ghost use Rattle.wire_reader.specs.Opening.{told, OpenSays};
+ghost use Rattle.wire_reader.specs.Opening.{OpenSays};
 
 use crate::reader::Reader;
-use base_types::{Channel, Named};
+use base_types::{Channel, NotAChannel};
+use refusal::Answered;
 
-// What opening a reader answers: that it is open, or that the number names no channel.
-#[derive(Clone, Copy)]
-pub enum Opening {
-    Opened,
-    NotAChannel,
-}
-
-impl Opening {
-    // 01's number: 0, or that of the refusal.
-    pub fn number(self) -> u8
-        ensures { result ≡ told self }
-    {
-        match self {
-            Opening::Opened => 0,
-            Opening::NotAChannel => 1,
-        }
-    }
-}
-
-#[derive(Clone, Copy)]
-pub struct Opened {
-    pub answer: Opening,
-    pub reader: Reader,
-}
-
-// Opens a reader on a channel that is given by its number. With a refusal the reader is all zeros.
-pub fn open_reader(channel: u8) -> Opened
+// Opens a reader on a channel that is given by its number. (A number, as 01's refusal 1 asks.) With a refusal the reader is all zeros.
+pub fn open_reader(channel: u8) -> Answered<(), NotAChannel, Reader>
     ensures { OpenSays channel result }
 {
-    let Named::Is(named) = Channel::named(channel) else {
-        return Opened {
-            answer: Opening::NotAChannel,
-            reader: Reader::none(),
-        };
-    };
-    Opened {
-        answer: Opening::Opened,
-        reader: Reader::fresh(named),
+    match Channel::try_from(channel) {
+        Ok(named) => Answered::accepted((), Reader::fresh(named)),
+        Err(refusal) => Answered::refused(refusal, Reader::none()),
     }
 }

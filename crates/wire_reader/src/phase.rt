@@ -42,16 +42,7 @@ impl Phase {
     pub(crate) fn is_data(self) -> bool
         ensures { result ≡ is_data self }
     {
-        match self {
-            Phase::Waiting => false,
-            Phase::Start(_) => false,
-            Phase::FrameStart(_) => false,
-            Phase::ByteStart => false,
-            Phase::ByteStartLow => false,
-            Phase::Byte(_, _) => true,
-            Phase::End => false,
-            Phase::EndHigh => false,
-        }
+        matches!(self, Phase::Byte(_, _))
     }
 
     // The samples since the reference point, with one more.
@@ -60,30 +51,15 @@ impl Phase {
         ensures { result ≡ counted self since }
     {
         match self {
-            Phase::Waiting => 0,
-            Phase::Start(_) => 0,
-            Phase::FrameStart(_) => 0,
-            Phase::ByteStart => since + 1,
-            Phase::ByteStartLow => since + 1,
-            Phase::Byte(_, _) => since + 1,
-            Phase::End => since + 1,
-            Phase::EndHigh => 0,
+            Phase::Waiting | Phase::Start(_) | Phase::FrameStart(_) | Phase::EndHigh => 0,
+            Phase::ByteStart | Phase::ByteStartLow | Phase::Byte(_, _) | Phase::End => since + 1,
         }
     }
 
     pub(crate) fn is_waiting(self) -> bool
         ensures { result ≡ is_waiting self }
     {
-        match self {
-            Phase::Waiting => true,
-            Phase::Start(_) => false,
-            Phase::FrameStart(_) => false,
-            Phase::ByteStart => false,
-            Phase::ByteStartLow => false,
-            Phase::Byte(_, _) => false,
-            Phase::End => false,
-            Phase::EndHigh => false,
-        }
+        matches!(self, Phase::Waiting)
     }
 
     // Whether the phase is sound with this count of bytes and these samples since the reference point. `slack` is how many of them there may
@@ -96,14 +72,13 @@ impl Phase {
         let bits = 10 * count as u32;
         match self {
             Phase::Waiting => no_bytes,
-            Phase::Start(n) => ((1 <= n) & (n <= MOST_LOW)) & no_bytes,
-            Phase::FrameStart(n) => ((1 <= n) & (n <= MOST_HIGH)) & no_bytes,
+            Phase::Start(n) => (1..=MOST_LOW).contains(&n) & no_bytes,
+            Phase::FrameStart(n) => (1..=MOST_HIGH).contains(&n) & no_bytes,
             Phase::ByteStart => {
-                ((1 <= count) & (count <= MOST_BEFORE)) & (since <= MOST_BETWEEN * bits + slack)
+                (1..=MOST_BEFORE).contains(&count) & (since <= MOST_BETWEEN * bits + slack)
             }
             Phase::ByteStartLow => {
-                ((1 <= count) & (count <= MOST_BEFORE))
-                    & (since <= MOST_BETWEEN * (bits + 1) + slack)
+                (1..=MOST_BEFORE).contains(&count) & (since <= MOST_BETWEEN * (bits + 1) + slack)
             }
             Phase::Byte(n, value) => {
                 if 7 < n {
@@ -113,7 +88,7 @@ impl Phase {
                 (value >> n == 0) & ((count <= MOST_BEFORE) & (since <= most))
             }
             Phase::End => {
-                ((8 <= count) & (count <= Header::LONGEST_FRAME as u16))
+                (8..=Header::LONGEST_FRAME as u16).contains(&count)
                     & (since <= MOST_BETWEEN * bits + slack)
             }
             Phase::EndHigh => no_bytes,

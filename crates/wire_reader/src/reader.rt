@@ -1,17 +1,19 @@
 // A reader of the wire, and what it makes of a sample.
-ghost use Rattle.std.specs.Prelude.{◌≡◌, true, cond, suc, min, ◌<◌, ◌≤◌, length};
+ghost use Rattle.std.specs.Prelude.{◌≡◌, true, ◌<◌, ◌≤◌, length};
 ghost use Rattle.header.specs.Layout.{longest_frame};
-ghost use Rattle.wire_reader.specs.Reader.{idle_samples, step, fresh_reader, no_reader, state_of};
+ghost use Rattle.wire_reader.specs.Reader.{ticked, step, fresh_reader, no_reader, state_of};
 ghost use Rattle.wire_reader.specs.Sound.{slack_of, sound};
 ghost use Rattle.wire_reader.specs.Pending.{step_by};
 
 use crate::decoder;
+use crate::decoder::Bytes;
 use crate::event::Event;
 use crate::phase::Phase;
 use base_types::Channel;
 use bit_clock::BitClock;
 
-// What is known between two samples. The bytes so far are the first `count` of the memory that is lent with it.
+// What is known between two samples. The bytes so far are the first `count` of the memory that is lent with it: a state
+// holds no reference, and the memory is the host's (DECISIONS 157).
 #[derive(Clone, Copy)]
 pub struct Reader {
     pub channel: Channel,
@@ -89,7 +91,7 @@ pub(crate) fn sample(reader: Reader, high: bool, memory: &mut [u8]) -> Sampled
     let count = reader.count;
     let v = clock.vote(high);
     let next = clock.after(phase.is_data(), high, v);
-    let timer = if_byte(clock.votes(), one_more(reader.timer), reader.timer);
+    let timer = ticked(clock, reader.timer);
     let since = phase.counted(reader.since);
     if !clock.strobes(v) {
         return Sampled {
@@ -101,7 +103,7 @@ pub(crate) fn sample(reader: Reader, high: bool, memory: &mut [u8]) -> Sampled
                 count,
                 since,
             },
-            event: Event::Nothing,
+            event: None,
         };
     }
     let d = decoder::decode(
@@ -109,40 +111,32 @@ pub(crate) fn sample(reader: Reader, high: bool, memory: &mut [u8]) -> Sampled
         phase,
         v,
         timer == IDLE_SAMPLES,
-        count,
-        since,
+        Bytes { count, since },
         memory,
     );
-    let timer = if_byte(v, timer, 0);
-    let phase = d.phase;
-    let event = d.event;
+    let timer = if v { timer } else { 0 };
     Sampled {
         reader: Reader {
             channel,
             clock: next,
             timer,
-            phase,
-            count: d.count,
-            since: d.since,
+            phase: d.phase,
+            count: d.bytes.count,
+            since: d.bytes.since,
         },
-        event,
+        event: d.event,
     }
 }
 
-// One more sample, up to those that make the channel idle.
-fn one_more(timer: u8) -> u8
-    ensures { result ≡ min idle_samples (suc timer) }
+// The timer, this sample counted, up to the samples that make the channel idle.
+fn ticked(clock: BitClock, timer: u8) -> u8
+    ensures { result ≡ ticked clock timer }
 {
-    if timer < IDLE_SAMPLES {
-        return timer + 1;
+    if clock.votes() {
+        timer.saturating_add(1).min(IDLE_SAMPLES)
+    } else {
+        timer
     }
-    IDLE_SAMPLES
-}
-
-fn if_byte(test: bool, this: u8, other: u8) -> u8
-    ensures { result ≡ cond test this other }
-{
-    if test { this } else { other }
 }
 
 // How many samples there may be behind the last strobe, by the counter.

@@ -1,2 +1,1 @@
 pub mod WriteLaws
-pub mod AnswerLaws

@@ -1,6 +1,7 @@
 -- The conditions behind the refusals of writing, each alone (01, "Refusal numbers": "given exactly when"), but for 7, which is in the
 -- crate `header`, and for 1, 9 and 11, which are in the crate `base_types`.
-use Rattle.std.specs.Prelude.{ℕ, ◌+◌, Bool, false, not, ◌&&◌, ◌||◌, List, [], ◌∷◌, eqb, ltb, length}
+use Rattle.std.specs.Prelude.{ℕ, ◌+◌, Bool, not, ◌&&◌, ◌||◌, List, eqb, ltb, length}
+use Rattle.std.specs.List.{list_any}
 use Rattle.division.specs.Bits.{odd}
 use Rattle.header.specs.Layout.{most_payload}
 
@@ -11,9 +12,8 @@ bad_payload payload = odd (length payload) || ltb most_payload (length payload)
 -- 12, "reserved bit to write is 1", is the bit itself.
 
 -- Some byte is other than 0.
-unfoldable pub some_not_zero : List ℕ → Bool
-some_not_zero [] = false
-some_not_zero (byte ∷ bytes) = not (eqb byte 0) || some_not_zero bytes
+abbrev pub some_not_zero : List ℕ → Bool
+some_not_zero bytes = list_any (λ byte. not (eqb byte 0)) bytes
 
 -- 26: "a null frame with a payload byte other than 0" (02, C-16). In a null frame the bit is 0.
 abbrev pub null_frame_not_empty : Bool → List ℕ → Bool

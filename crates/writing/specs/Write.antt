@@ -1,5 +1,7 @@
 -- The entry `write`: what it answers, and what it leaves in the output.
-use Rattle.std.specs.Prelude.{ℕ, ◌+◌, ◌/◌, ◌≡◌, List, [], ◌∷◌, ◌++◌, length}
+use Rattle.std.specs.Prelude.{ℕ, ◌+◌, ◌/◌, ◌≡◌, List, [], ◌∷◌, ◌++◌, length, Result}
+use Rattle.std.specs.Result.{result_unwrap_or}
+use Rattle.refusal.specs.Answer.{number_in}
 use Rattle.refusal.specs.Refusal.{Line, ◌when◌, first, if_accepted}
 use Rattle.division.specs.Bits.{bits, bytes_of}
 use Rattle.base_types.specs.declared.channel.Channel.{Channel}
@@ -12,8 +14,8 @@ use Rattle.base_types.specs.Slot.{not_an_id}
 use Rattle.base_types.specs.Cycle.{cycle_too_high}
 use Rattle.header.specs.Refusals.{startup_without_sync}
 use Rattle.lent_bytes.specs.Over.{over}
-use Rattle.writing.specs.declared.Writing.{Writing}
-use Rattle.writing.specs.declared.Writing.TheVariants.{Written, NotAChannel, NotAnId, BadPayload, CycleTooHigh, StartupWithoutSync, ReservedSet, NullFrameNotEmpty, OutputTooShort}
+use Rattle.writing.specs.declared.WriteRefusal.{WriteRefusal}
+use Rattle.writing.specs.declared.WriteRefusal.TheVariants.{NotAChannel, NotAnId, BadPayload, CycleTooHigh, StartupWithoutSync, ReservedSet, NullFrameNotEmpty, OutputTooShort}
 use Rattle.writing.specs.Refusals.{bad_payload, null_frame_not_empty, output_too_short}
 
 -- ---- what is written
@@ -43,24 +45,28 @@ frame_bytes channel fields payload =
 
 -- ---- what writing answers
 
+-- The number of each refusal.
+abbrev pub number_of : WriteRefusal → ℕ
+number_of NotAChannel = 1
+number_of NotAnId = 9
+number_of BadPayload = 10
+number_of CycleTooHigh = 11
+number_of StartupWithoutSync = 7
+number_of ReservedSet = 12
+number_of NullFrameNotEmpty = 26
+number_of OutputTooShort = 13
+
+-- An answer is the frame's size, or why no frame was written.
+abbrev pub Writing : Type 0
+Writing = Result ℕ WriteRefusal
+
 -- What an answer says in 01's numbers: the refusal number, 0 for none, and the frame's size, 0 with a refusal.
 pub record Told : Type 0 where
   pub number : ℕ
   pub length : ℕ
 
-abbrev pub refused : ℕ → Told
-refused n = record { number = n; length = 0 }
-
 abbrev pub told : Writing → Told
-told (Written size) = record { number = 0; length = size }
-told NotAChannel = refused 1
-told NotAnId = refused 9
-told BadPayload = refused 10
-told CycleTooHigh = refused 11
-told StartupWithoutSync = refused 7
-told ReservedSet = refused 12
-told NullFrameNotEmpty = refused 26
-told OutputTooShort = refused 13
+told answer = record { number = number_in number_of answer; length = result_unwrap_or answer 0 }
 
 -- The refusals of the entry, in their order: "Write: 1, 9, 10, 11, 7, 12, 13", with 26 "after 12 and before 13" (02, C-16).
 abbrev pub refusals : ℕ → Fields → List ℕ → List ℕ → List Line

@@ -5,18 +5,21 @@
 
 ghost use Rattle.std.specs.Prelude.{◌≡◌, ◌+◌, ◌≤◌, length};
 ghost use Rattle.header.specs.Layout.{most_payload};
-ghost use Rattle.writing.specs.Refusals.{bad_payload, some_not_zero, null_frame_not_empty};
+ghost use Rattle.writing.specs.Refusals.{bad_payload, null_frame_not_empty};
 ghost use Rattle.lent_bytes.specs.Over.{over};
-ghost use Rattle.writing.specs.Write.{header_of, frame_bytes, told, WriteSays};
+ghost use Rattle.writing.specs.declared.WriteRefusal.TheVariants.{NotAChannel as WriteRefusal-as-NotAChannel};
+ghost use Rattle.writing.specs.Write.{number_of, header_of, frame_bytes, WriteSays};
 ghost use Rattle.division.specs.Bits.{bits, bytes_of};
 
-use base_types::{Channel, Named};
+use base_types::{Channel, NotAChannel};
 use header::{Fields, Header};
+use refusal::Refusal;
 
 // What writing answers: the frame's size, or why no frame was written.
+pub type Writing = Result<usize, WriteRefusal>;
+
 #[derive(Clone, Copy)]
-pub enum Writing {
-    Written(usize),
+pub enum WriteRefusal {
     NotAChannel,
     NotAnId,
     BadPayload,
@@ -27,128 +30,97 @@ pub enum Writing {
     OutputTooShort,
 }
 
-impl Writing {
-    // 01's number: 0, or that of the refusal.
-    pub fn number(self) -> u8
-        ensures { result ≡ (told self).number }
-    {
-        match self {
-            Writing::Written(_) => 0,
-            Writing::NotAChannel => 1,
-            Writing::NotAnId => 9,
-            Writing::BadPayload => 10,
-            Writing::CycleTooHigh => 11,
-            Writing::StartupWithoutSync => 7,
-            Writing::ReservedSet => 12,
-            Writing::NullFrameNotEmpty => 26,
-            Writing::OutputTooShort => 13,
-        }
-    }
+impl Refusal for WriteRefusal {
+    ghost number_of = { number_of };
 
-    // The frame's size, 0 with a refusal.
-    pub fn length(self) -> usize
-        ensures { result ≡ (told self).length }
-    {
-        let Writing::Written(size) = self else {
-            return 0;
-        };
-        size
+    fn number(self) -> u8 {
+        match self {
+            WriteRefusal::NotAChannel => 1,
+            WriteRefusal::NotAnId => 9,
+            WriteRefusal::BadPayload => 10,
+            WriteRefusal::CycleTooHigh => 11,
+            WriteRefusal::StartupWithoutSync => 7,
+            WriteRefusal::ReservedSet => 12,
+            WriteRefusal::NullFrameNotEmpty => 26,
+            WriteRefusal::OutputTooShort => 13,
+        }
     }
 }
 
-// Writes a frame at the front of the output, on a channel that is given by its number. The tests come in 01's order, all of
+impl From<NotAChannel> for WriteRefusal {
+    ghost from_gives = { λ _ refusal. refusal ≡ WriteRefusal-as-NotAChannel };
+
+    fn from(_refusal: NotAChannel) -> WriteRefusal {
+        WriteRefusal::NotAChannel
+    }
+}
+
+// Writes a frame at the front of the output, on a channel that is given by its number. (A number, as 01's refusal 1 asks.) The tests come in 01's order, all of
 // them before the first byte is touched.
+#[tactic(auto, using(crate::proofs::WriteLaws::payload_at_most), unfolding(refusal::specs::Refusal::first, base_types::specs::Channel::named_by))]
 pub fn write(channel: u8, fields: Fields, payload: &[u8], output: &mut [u8]) -> Writing
     ensures { WriteSays channel fields payload.now output.old output.new result }
 {
-    let Named::Is(named) = Channel::named(channel) else {
-        return Writing::NotAChannel;
-    };
+    let named = Channel::try_from(channel)?;
     if fields.id.is_not_an_id() {
-        return Writing::NotAnId;
+        return Err(WriteRefusal::NotAnId);
     }
     if is_bad(payload) {
-        return Writing::BadPayload;
+        return Err(WriteRefusal::BadPayload);
     }
     if fields.cycle.is_too_high() {
-        return Writing::CycleTooHigh;
+        return Err(WriteRefusal::CycleTooHigh);
     }
     if header::startup_without_sync(fields.startup, fields.sync) {
-        return Writing::StartupWithoutSync;
+        return Err(WriteRefusal::StartupWithoutSync);
     }
-    // Both are worked out before 12 is tried (DECISIONS 70): a build that tries 12, 26 and 13 in another order then differs in the order
-    // alone, and is refused for it.
-    let not_empty = null_frame_not_empty(fields.null_frame_bit, payload);
-    let size = payload.len() + 8;
     if fields.reserved {
-        return Writing::ReservedSet;
+        return Err(WriteRefusal::ReservedSet);
     }
-    if not_empty {
-        return Writing::NullFrameNotEmpty;
+    if null_frame_not_empty(fields.null_frame_bit, payload) {
+        return Err(WriteRefusal::NullFrameNotEmpty);
     }
+    let size = 8 + payload.len();
     if output.len() < size {
-        return Writing::OutputTooShort;
+        return Err(WriteRefusal::OutputTooShort);
     }
     lay(named, fields, payload, output);
-    Writing::Written(size)
+    Ok(size)
 }
 
 // Refusal 10.
 fn is_bad(payload: &[u8]) -> bool
     ensures { result ≡ bad_payload payload.now }
 {
-    if payload.len() % 2 == 1 {
-        return true;
-    }
-    Header::MOST_PAYLOAD < payload.len()
+    payload.len() % 2 == 1 || Header::MOST_PAYLOAD < payload.len()
 }
 
 // Refusal 26 (document 02, C-16). In a null frame the bit is clear; of any other frame the payload is not looked at.
 fn null_frame_not_empty(null_frame_bit: bool, payload: &[u8]) -> bool
     ensures { result ≡ null_frame_not_empty null_frame_bit payload.now }
 {
-    if null_frame_bit {
-        return false;
-    }
-    some_not_zero(payload)
-}
-
-// Whether some byte is other than 0.
-fn some_not_zero(bytes: &[u8]) -> bool
-    ensures { result ≡ some_not_zero bytes.now }
-{
-    let mut i = 0;
-    while i < bytes.len() {
-        let byte = bytes[i];
-        i += 1;
-        if byte != 0 {
-            return true;
-        }
-    }
-    false
+    !null_frame_bit && payload.iter().any(|byte| *byte != 0)
 }
 
 // The header with these fields, before a payload of this many words.
 fn header_of(fields: Fields, words: u8) -> Header
     ensures { result ≡ header_of fields words }
 {
-    let id = fields.id;
-    let cycle = fields.cycle;
-    let mut header = Header {
+    let header = Header {
         reserved: fields.reserved,
         preamble: fields.preamble,
         null_frame_bit: fields.null_frame_bit,
         sync: fields.sync,
         startup: fields.startup,
-        id,
+        id: fields.id,
         words,
         checksum: 0,
-        cycle,
+        cycle: fields.cycle,
     };
-    // The prover takes no call whose result goes into a field of what it is given.
-    let due = header.checksum_due();
-    header.checksum = due;
-    header
+    Header {
+        checksum: header.checksum_due(),
+        ..header
+    }
 }
 
 // Lays a frame over the front of the output: the header, the payload into the middle, and the trailer behind it.
@@ -158,7 +130,7 @@ fn lay(channel: Channel, fields: Fields, payload: &[u8], output: &mut [u8])
 {
     let words = (payload.len() / 2) as u8;
     lent_bytes::put_number(output, header::packed(header_of(fields, words)), 5);
-    let end = payload.len() + 5;
+    let end = 5 + payload.len();
     output[5..end].copy_from_slice(payload);
     let checksum = checksum::frame_checksum_on(channel, &output[0..end]);
     put_trailer(&mut output[end..], checksum);
@@ -169,5 +141,5 @@ fn put_trailer(output: &mut [u8], checksum: u32)
     requires { 3 ≤ length output.old }
     ensures { output.new ≡ over (bytes_of 3 (bits 24 checksum)) output.old }
 {
-    lent_bytes::put_number(output, checksum as u64, 3);
+    lent_bytes::put_number(output, u64::from(checksum), 3);
 }

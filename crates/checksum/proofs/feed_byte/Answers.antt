@@ -18,7 +18,7 @@ returns c =
     let index = bit_xor top a.byte in
     let small : index < 2 ^ 8 = xor_lt 8 top a.byte (omega (arith, c.requires)) (omega (arith, c.ranges.byte)) in
     let whole : min index 255 ≡ index = omega arith in
-    let found : c.entry.result ≡ entry 24 frame_polynomial (min index 255) = c.entry.ensures in
+    let found : c.entry.result ≡ entry 24 frame_polynomial (min index 255) = rw c.from.ensures at c.entry.ensures in
     fed 24 frame_polynomial a.register _ (bits 8 a.byte)
     (ap₂ bit_xor (cut 8 24 (a.register * 2 ^ 8)) (found ∙ ap (entry 24 frame_polynomial) whole)
     ∙ sym (looks_up 24 frame_polynomial (omega arith) a.register a.byte))

@@ -1,23 +1,19 @@
--- `feed_bytes` meets its contract. The invariant: the register, with the bytes still to come, gives the answer.
+-- `feed_bytes` meets its contract: one turn feeds the byte at this place.
 use mathlib.Core.Path.{◌∙◌}
 use native.Mathlib.Omega.{arith}
-use Rattle.division.specs.Bits.{bytes_bits}
 use Rattle.division.proofs.TurnLaws.{fed, turn_byte, end_bytes}
 use Rattle.checksum.specs.Checksums.{frame_polynomial}
 use Rattle.checksum.proofs.feed_bytes.Goals as goal
 
-pub loop-i-preserved : goal.loop-i-preserved
-loop-i-preserved c =
-    let l = c.loop-i in
-    let bytes = c.args.bytes.now in (
-      omega arith,
+pub loop-byte-preserved : goal.loop-byte-preserved
+loop-byte-preserved c =
+    let l = c.loop-byte in (
       c.feed_byte-r.ensures.small,
-      turn_byte 24 frame_polynomial l.r c.feed_byte-r.result bytes l.i (omega arith) c.feed_byte-r.ensures.value ∙ l.invariant.2,
+      turn_byte 24 frame_polynomial l.r c.feed_byte-r.result c.args.bytes.now l.byte-index (omega arith) c.feed_byte-r.ensures.value ∙ l.invariant.1,
     )
 
 pub returns : goal.returns
 returns c =
-    let a = c.args in
-    let l = c.loop-i in
-    fed 24 frame_polynomial a.register l.r (bytes_bits a.bytes.now)
-    (end_bytes 24 frame_polynomial l.r a.bytes.now l.i _ (omega arith) l.invariant.1 l.invariant.2)
+    let l = c.loop-byte in
+    fed 24 frame_polynomial c.args.register l.r _
+    (end_bytes 24 frame_polynomial l.r c.args.bytes.now l.byte-index _ (omega arith) l.invariant.0 l.invariant.1)

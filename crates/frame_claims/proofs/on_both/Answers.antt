@@ -2,7 +2,6 @@
 use Rattle.frame_claims.proofs.Witnesses.{never_both}
 use Rattle.frame_claims.proofs.on_both.Goals as goal
 
-pub returns : goal.returns
-returns c =
-    never_both c.args.bytes.now c.accepts.result c.accepts-2.result c.accepts.ensures
-    c.if-not-accepts.false c.accepts-2.ensures
+pub returns-then-accepts : goal.returns-then-accepts
+returns-then-accepts c =
+    never_both c.args.bytes.now c.accepts.result c.accepts-then-accepts.result c.accepts.ensures c.if-accepts.true c.accepts-then-accepts.ensures

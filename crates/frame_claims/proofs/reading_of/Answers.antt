@@ -3,5 +3,4 @@ use Rattle.frame_claims.proofs.Witnesses.{reading_of}
 use Rattle.frame_claims.proofs.reading_of.Goals as goal
 
 pub returns : goal.returns
-returns c =
-    reading_of c.args.channel c.args.bytes.now c.read.result (λ i. (c.shared_slice_known-1.given i).fits) c.read.ensures
+returns c = reading_of c.args.channel c.args.bytes.now c.read.result (λ i. (c.type_inv.bytes i).fits) c.read.ensures

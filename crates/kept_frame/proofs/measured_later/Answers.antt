@@ -17,6 +17,6 @@ returns c =
       later = subst (λ (t : Status). MeasureSays a.state t a.observed a.action_point r) says.leaves c.measure.ensures;
       as_before =
           λ there.
-          (measured_as_before a.status (arrival a.bytes.now ∷ []) judged.status (judged, says, refl) there a.state a.observed a.action_point r).0
+          (measured_as_before a.status (arrival a.bytes.now ∷ []) judged.state (judged, says, refl) there a.state a.observed a.action_point r).0
           c.measure.ensures;
     }

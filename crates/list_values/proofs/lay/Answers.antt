@@ -1,13 +1,13 @@
--- `lay` meets its contract: behind the value that is laid there are zeros.
-use mathlib.Core.Path.{◌∙◌}
-use native.Mathlib.Numerals.{add-one}
-use native.Mathlib.Omega.{arith}
-use lib.ListN.{length-set}
-use Rattle.list_values.proofs.ValueLaws.{zeros_next}
+-- `lay` meets its contract: one of the zeros makes room for the value.
+use borrow.Author.Rules.{rules}
+use mir.Syntax.{w32}
+use mir.Val.{SFits}
+use mir.Facts.{to_z-of_z}
+use Rattle.list_values.proofs.ValueLaws.{laid}
 use Rattle.list_values.proofs.lay.Goals as goal
 
-pub returns-clause-upper_bound : goal.returns-clause-upper_bound
-returns-clause-upper_bound c =
-    let numbers = c.args.numbers.now in
-    let count = c.args.count in
-    (omega arith, length-set numbers count _ ∙ c.requires.1, rw add-one (zeros_next count numbers _ c.requires.0 c.requires.2))
+pub returns-in-Some : goal.returns-in-Some
+returns-in-Some c =
+    let x = c.in-Some.x.0 in
+    let fits : SFits w32 x = search rules in
+    rw (c.in-Some.is, to_z-of_z fits) (laid c.args.values.now x c.requires.room c.requires.zeros)

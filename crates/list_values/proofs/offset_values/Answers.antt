@@ -1,36 +1,33 @@
--- `offset_values` meets its contract: the values so far, with those of the rows to come, are those of all rows.
-use borrow.Author.Rules.{rules}
-use mathlib.Core.Path.{◌≡◌, ap, ◌∙◌}
-use native.Mathlib.Numerals.{add-one}
-use lib.ListN.{length}
-use Rattle.numbers.proofs.Walk.{length-of_mapped}
+-- `offset_values` meets its contract: the values of the rows passed are in their array.
+use mathlib.Core.Path.{refl, ap, ◌∙◌}
+use native.Mathlib.Omega.{arith}
 use Rattle.correction.specs.Values.{offset_value}
-use Rattle.sync_list.specs.Lists.{row_count}
-use Rattle.sync_list.proofs.ListLaws.{walk_start}
-use Rattle.list_values.proofs.ValueLaws.{gathered_none, gathered_room, gathered_next, gathered_all}
-use Rattle.list_values.proofs.offset_values.Goals as goal
-use Rattle.list_values.proofs.offset_values.Goals.{After-offset_value-value, In-loop-i, Start}
+use Rattle.sync_list.specs.Rows.{blank}
+use Rattle.list_values.specs.Values.{present}
+use Rattle.list_values.proofs.ValueLaws.{has_room, is_filled, row_passed, all_passed}
 use Rattle.list_values.proofs.offset_values.Invariants.{offset_of}
+use Rattle.list_values.proofs.offset_values.Goals as goal
 
-long : (c : Start) → length c.args.list.rows ≡ row_count
-long c = search (rules, length-of_mapped)
+pub loop-row-init : goal.loop-row-init
+unfolding present
+loop-row-init c = refl
 
-pub loop-i-init : goal.loop-i-init
-loop-i-init c =
-    let s : Start = search rules in
-    gathered_none offset_of s.args.list _ (walk_start s.args.list (long s) _ c.listed-listed.ensures)
+pub lay-requires-clause-room : goal.lay-requires-clause-room
+lay-requires-clause-room c =
+    let k = c.loop-row in has_room offset_of c.listed-rows.result.now c.listed-rows.ensures.few k.row-index k.values k.invariant c.loop-row-test.true
 
-pub lay-count-requires : goal.lay-count-requires
-lay-count-requires c =
-    let t : In-loop-i = search rules in gathered_room t.loop-i.invariant t.loop-i-test.true
+pub lay-requires-clause-zeros : goal.lay-requires-clause-zeros
+lay-requires-clause-zeros c =
+    let k = c.loop-row in is_filled offset_of c.listed-rows.result.now c.listed-rows.ensures.few k.row-index k.values k.invariant c.loop-row-test.true
 
-pub loop-i-preserved : goal.loop-i-preserved
-loop-i-preserved c =
-    let t : In-loop-i = search rules in
-    let o : After-offset_value-value = search rules in
-    let value = o.offset_value-value.ensures ∙ ap offset_value o.deviations.ensures in
-    rw add-one (gathered_next t.loop-i.invariant t.loop-i-test.true _ value _ _ c.lay-count.ensures.numbers_after c.lay-count.ensures.upper_bound)
+pub loop-row-preserved : goal.loop-row-preserved
+loop-row-preserved c =
+    let k = c.loop-row in
+    let value = c.offset_value.ensures ∙ ap offset_value c.deviations.ensures in
+    row_passed offset_of c.listed-rows.result.now c.listed-rows.ensures.few k.row-index k.values k.invariant (blank (record { 0 = 0 })) c.loop-row-test.true c.lay.new.values c.offset_value.result value c.lay.ensures
 
-pub returns : goal.returns
-returns c =
-    let all = gathered_all c.loop-i.invariant c.loop-i-test.false in record { value = all.0; result_value = all.1 }
+pub returns-clause-result_value : goal.returns-clause-result_value
+returns-clause-result_value c =
+    let k = c.loop-row in
+    rw (← c.listed-rows.ensures.value)
+    (all_passed offset_of c.listed-rows.result.now c.listed-rows.ensures.few k.row-index k.values k.invariant (omega arith) c.loop-row-test.false)

@@ -11,8 +11,8 @@ returns c =
     record {
       order =
           subst (InOrder (listen_refusals r c.args.memory.now)) (sym c.number.ensures)
-          (listen_in_order r c.args.samples.now c.args.memory.now _ c.listen-heard.result c.listen-heard.ensures);
+          (listen_in_order r c.args.samples.now c.args.memory.now _ c.listen.result c.listen.ensures);
       refused = λ not-0.
-          (listen_refused r c.args.samples.now c.args.memory.now _ c.listen-heard.result c.listen-heard.ensures
+          (listen_refused r c.args.samples.now c.args.memory.now _ c.listen.result c.listen.ensures
           (λ e. not-0 (c.number.ensures ∙ e))).2;
     }

@@ -1,8 +1,7 @@
 -- What the statement of an event gives.
-use Rattle.slot_events.specs.Effect.{boundary_activity}
 use Rattle.slot_claims.proofs.Witnesses.{judged_well}
 use Rattle.slot_claims.proofs.judged_boundary.Goals as goal
 
 pub returns : goal.returns
 returns c =
-    judged_well c.args.status boundary_activity c.boundary.result c.boundary.ensures
+    judged_well _ _ _ c.boundary.ensures

@@ -13,5 +13,5 @@ returns c =
           y.new.output y.result y.ensures;
       told_apart =
           told_apart a.first_channel a.x.now a.s a.first.now x.new.output x.result x.ensures a.second_channel a.y.now a.t a.second.now
-          y.new.output y.result y.ensures (λ i. (c.shared_slice_known-1.given i).fits) (λ i. (c.shared_slice_known-2-1.given i).fits);
+          y.new.output y.result y.ensures (λ i. (c.type_inv.x i).fits) (λ i. (c.type_inv.y i).fits);
     }

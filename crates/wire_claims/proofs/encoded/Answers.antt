@@ -8,6 +8,6 @@ pub returns : goal.returns
 returns c =
     let a = c.args in
     let after = c.encode.new.output in
-    subst (EncodedBits a.channel a.bytes.now a.start a.output.now after) (sym c.bits.ensures)
+    subst (EncodedBits a.channel a.bytes.now a.start a.output.now after) (sym c.unwrap_or.ensures)
     (encoded_bits a.channel a.bytes.now a.start a.output.now after c.encode.result c.encode.ensures
-    (λ i. (c.shared_slice_known-1.given i).fits))
+    (λ i. (c.type_inv.bytes i).fits))

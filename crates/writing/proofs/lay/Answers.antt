@@ -21,7 +21,7 @@ returns c =
     let a = c.args in
     let payload = a.payload.now in
     let output = a.output.now in
-    let end = length payload + 5 in
+    let end = 5 + length payload in
     let header : c.put_number.new.output ≡ over (bytes_of 5 (whole_header (header_of a.fields (length payload / 2)))) output =
     c.put_number.ensures ∙ number_put_lem c.packed.result 5 output (omega arith) (omega arith)
     ∙ ap (λ (x : List Bool). over (bytes_of 5 x) output) (c.packed.ensures.result_value ∙ ap whole_header c.header_of.ensures) in

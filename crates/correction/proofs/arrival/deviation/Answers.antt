@@ -1,20 +1,16 @@
 -- `deviation` meets its contract: four parts subtracted in 64 bits, where none is cut.
 use Prim.Native.Nat.{ℕ, ◌<◌, ◌^◌}
 use native.Mathlib.Omega.{arith}
-use mathlib.Core.Path.{◌≡◌, ap, ◌∙◌}
-use lib.IntN.{ℤ, pos, ◌-ℤ◌}
+use lib.IntN.{pos, ◌-ℤ◌}
 use mir.Syntax.{w64}
-use mir.Val.{SFits, to_z, of_z}
+use mir.Val.{SFits}
 use mir.Facts.{to_z-of_z}
 use Rattle.numbers.proofs.Signed.{signed, sub_sums}
-use Rattle.numbers.proofs.Wide.{wide_unsigned}
-use Rattle.base_types.specs.Microtick.{held}
 use Rattle.correction.specs.Deviation.{deviation}
 use Rattle.correction.proofs.arrival.deviation.Goals as goal
 
--- a number as an i64 keeps it
-abbrev as_wide : ℤ → ℤ
-as_wide z = to_z w64 (of_z w64 z)
+small : (n : ℕ) → n < 2 ^ 32 → SFits w64 (pos n)
+small n h = omega signed
 
 -- the three differences, each of which an i64 holds
 module _ (o k d p : ℕ) (o-small : o < 2 ^ 32) (k-small : k < 2 ^ 32) (d-small : d < 2 ^ 32) (p-small : p < 2 ^ 32) where
@@ -24,18 +20,30 @@ module _ (o k d p : ℕ) (o-small : o < 2 ^ 32) (k-small : k < 2 ^ 32) (d-small 
   sent : SFits w64 (pos o -ℤ pos k -ℤ pos d)
   sent = let x = pos o in let y = pos k in omega (signed, sub_sums x y, sub_sums (x -ℤ y) (pos d))
 
-  whole-fits : SFits w64 (deviation o k d p)
-  whole-fits =
+  due : SFits w64 (deviation o k d p)
+  due =
       let x = pos o in
       let y = pos k in
       let z = pos d in
       omega (signed, sub_sums x y, sub_sums (x -ℤ y) z, sub_sums (x -ℤ y -ℤ z) (pos p))
 
-  wide-kept : as_wide (as_wide (as_wide (to_z w64 o -ℤ to_z w64 k) -ℤ to_z w64 d) -ℤ to_z w64 p) ≡ deviation o k d p
-  wide-kept =
-      rw (wide_unsigned o o-small, wide_unsigned k k-small, to_z-of_z corrected, wide_unsigned d d-small, to_z-of_z sent, wide_unsigned p p-small) (to_z-of_z whole-fits)
-
 pub returns : goal.returns
 returns c =
     let a = c.args in
-    c.holding.ensures ∙ ap held (wide-kept a.observed.0 a.correction a.delay a.action_point.0 (omega arith) (omega arith) (omega arith) (omega arith))
+    let o : a.observed.0 < 2 ^ 32 = omega arith in
+    let k : a.correction < 2 ^ 32 = omega arith in
+    let d : a.delay < 2 ^ 32 = omega arith in
+    let p : a.action_point.0 < 2 ^ 32 = omega arith in
+    rw (
+      c.from.ensures,
+      c.from-2.ensures,
+      c.from-3.ensures,
+      c.from-4.ensures,
+      to_z-of_z (small _ o),
+      to_z-of_z (small _ k),
+      to_z-of_z (small _ d),
+      to_z-of_z (small _ p),
+      to_z-of_z (corrected _ _ _ _ o k d p),
+      to_z-of_z (sent _ _ _ _ o k d p),
+      to_z-of_z (due _ _ _ _ o k d p),
+    ) at c.holding.ensures

@@ -13,8 +13,8 @@ use Rattle.wire.specs.Pending.{tens, ten_bits, to_come, Filled}
 use Rattle.wire.proofs.PackingLaws.{length-tens, length-to_come, length-stream, at_start, packed_by_eight, byte_written, all_written}
 use Rattle.wire.proofs.packing.pack.Goals as goal
 
-pub loop-i-init : goal.loop-i-init
-loop-i-init c =
+pub loop-slot-init : goal.loop-slot-init
+loop-slot-init c =
     let bytes = c.args.bytes.now in
     let start = c.args.start in
     let size : length c.args.output.now - 0 ≡ packed_size (length (stream start bytes)) = omega arith in (
@@ -22,7 +22,7 @@ loop-i-init c =
       omega arith,
       omega arith,
       omega arith,
-      ap₂ bytes_of size (at_start start bytes (λ i. (c.shared_slice_known-1.given i).fits)) ∙ packed_by_eight (stream start bytes),
+      ap₂ bytes_of size (at_start start bytes (λ i. (c.type_inv.bytes i).fits)) ∙ packed_by_eight (stream start bytes),
     )
 
 pub filled-pending-requires : goal.filled-pending-requires
@@ -31,9 +31,9 @@ filled-pending-requires c =
     let size = length-stream c.args.start bytes in
     record { bytes_len_bound = (omega arith, omega arith, omega (arith, length-tens bytes)); taken_in_bounds = λ few. omega arith }
 
-pub loop-i-preserved : goal.loop-i-preserved
-loop-i-preserved c =
-    let l = c.loop-i in
+pub loop-slot-preserved : goal.loop-slot-preserved
+loop-slot-preserved c =
+    let l = c.loop-slot in
     let bytes = c.args.bytes.now in
     let next = c.filled-pending.result in
     let says : Filled l.pending bytes next = c.filled-pending.ensures in
@@ -41,24 +41,20 @@ loop-i-preserved c =
     let byte = next.held / 2 ^ rest % 256 in
     let behind = ten_bits (drop next.taken (tens bytes)) in
     let whole : 8 + rest ≡ next.count = omega (arith, says.enough) in
-    let long = length-set l.output l.i byte in
+    let long = length-set l.output l.slot-index byte in
     let lengths = sym (length-to_come next bytes) ∙ ap length says.same ∙ length-to_come l.pending bytes in (
       long ∙ l.invariant.0,
       omega (arith, says.few),
       omega (arith, says.taken, length-tens bytes),
       omega (arith, lengths, says.enough, l.invariant.3),
-      rw (add-one l.i, long)
-          (byte_written l.output l.i rest next.held behind (omega arith)
-          ∙ ap (λ (x : List Bool). take l.i l.output ++ bytes_of (length l.output - l.i) x)
+      rw (add-one l.slot-index, long)
+          (byte_written l.output l.slot-index rest next.held behind (omega arith)
+          ∙ ap (λ (x : List Bool). take l.slot-index l.output ++ bytes_of (length l.output - l.slot-index) x)
           (ap (λ (w : ℕ). bits w next.held ++ behind) whole ∙ says.same)
           ∙ l.invariant.4),
     )
 
-pub shape_of-output : goal.shape_of-output
-shape_of-output c =
-    c.loop-i.invariant.0
-
 pub returns : goal.returns
 returns c =
-    let l = c.loop-i in
-    sym (all_written l.output l.i (to_come l.pending c.args.bytes.now) (omega arith)) ∙ l.invariant.4
+    let l = c.loop-slot in
+    sym (all_written l.output l.slot-index (to_come l.pending c.args.bytes.now) (omega arith)) ∙ l.invariant.4

@@ -2,7 +2,7 @@
 use mathlib.Core.Path.{◌≡◌}
 use mathlib.Core.Bool.{true}
 use mathlib.Core.List.{map}
-use Prim.Native.Nat.{◌-◌, ◌≤◌}
+use Prim.Native.Nat.{◌≤◌}
 use lib.ListN.{length, drop}
 use Rattle.wire_reader.specs.Reader.{piece, state_of}
 use Rattle.wire_reader.specs.Sound.{sound}
@@ -13,6 +13,3 @@ use Rattle.wire_reader.proofs.listening.take.Given as goal
 abbrev pub invariant-loop-i : goal.invariant-loop-i
 invariant-loop-i l = (l.i ≤ length l.samples) × (length l.memory ≡ length l.initial.memory) × (sound l.state ≡ true) × (l.state.channel ≡ l.initial.state.channel)
     × (added l.i (piece l.initial.state.channel (state_of l.state l.memory) (map is_high (drop l.i l.samples))) ≡ heard l.initial.state l.samples l.initial.memory)
-
-abbrev pub decreases-loop-i : goal.decreases-loop-i
-decreases-loop-i l = length l.samples - l.i
