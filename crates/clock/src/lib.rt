@@ -11,7 +11,7 @@ mod opening;
 mod sound;
 mod state;
 
-pub use loading::load;
+pub use loading::{field_told, load};
 pub use opening::{CycleRefusal, open_cycle};
 pub use sound::is_sound;
 pub use state::Clock;

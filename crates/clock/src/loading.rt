@@ -1,5 +1,6 @@
 // Settings loaded.
-ghost use Rattle.clock.specs.Loading.{LoadSays};
+ghost use Rattle.std.specs.Prelude.{◌≡◌};
+ghost use Rattle.clock.specs.Loading.{told, LoadSays};
 
 use crate::state::Clock;
 use refusal::Answered;
@@ -14,5 +15,15 @@ pub fn load(settings: Settings) -> Answered<(), SettingOutOfRange, Clock>
     match settings.checked() {
         Ok(()) => Answered::accepted((), Clock::fresh(settings)),
         Err(refusal) => Answered::refused(refusal, Clock::none()),
+    }
+}
+
+// The field number that an answer tells: the first out of range, and 0 where the settings are loaded.
+pub fn field_told(answer: Result<(), SettingOutOfRange>) -> u8
+    ensures { result ≡ (told answer).field }
+{
+    match answer {
+        Ok(()) => 0,
+        Err(SettingOutOfRange(field)) => field,
     }
 }

@@ -16,8 +16,8 @@ pub fn is_sound(clock: Clock) -> bool
     settings.first_out_of_range().is_none()
         && cycle_sound(clock.opened)
         && cycle_sound(clock.last_closed)
-        && list_soundness::is_sound(clock.even, limit, settings.mark)
-        && list_soundness::is_sound(clock.odd, limit, settings.mark)
+        && list_soundness::is_sound(&clock.even, limit, settings.mark)
+        && list_soundness::is_sound(&clock.odd, limit, settings.mark)
         && rate_sound(clock.rate, settings.get(Field::RateLimit))
 }
 

@@ -41,15 +41,15 @@ impl Clock {
     }
 
     // The open cycle; 0 where none is open. (A cycle and no Option: each condition of an order is defined by itself, DECISIONS 91.)
-    pub fn current_cycle(self) -> Cycle
-        ensures { result ≡ current_cycle self }
+    pub fn current_cycle(&self) -> Cycle
+        ensures { result ≡ current_cycle self.now }
     {
         self.opened.unwrap_or(Cycle(0))
     }
 
     // The list that takes the measurements of a cycle.
-    pub fn list_of(self, cycle: Cycle) -> SyncList
-        ensures { result ≡ list_of cycle self }
+    pub fn list_of(&self, cycle: Cycle) -> SyncList
+        ensures { result ≡ list_of cycle self.now }
     {
         if cycle.is_odd() { self.odd } else { self.even }
     }

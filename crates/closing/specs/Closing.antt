@@ -1,5 +1,5 @@
 -- Closing a cycle: what it reports, and the clock state that comes back (01, "Clock").
-use Rattle.std.specs.Prelude.{ℕ, ◌≡◌, false, not, ◌||◌, cond, is_some, List, [], ◌∷◌, None, Some, Result, Ok, Err, ℤ, pos}
+use Rattle.std.specs.Prelude.{ℕ, ◌≡◌, true, false, not, ◌||◌, cond, is_some, List, [], ◌∷◌, None, Some, Result, Ok, Err, ℤ, pos}
 use Rattle.std.specs.Result.{result_unwrap_or}
 use Rattle.refusal.specs.Answer.{number_in}
 use Rattle.refusal.specs.declared.Answered.{Answered}
@@ -9,7 +9,8 @@ use Rattle.settings.specs.Sheet.{offset_limit, rate_limit, drift_damping, extern
 use Rattle.base_types.specs.declared.microtick.SignedMicrotick.{SignedMicrotick}
 use Rattle.correction.specs.declared.term.Term.{Term}
 use Rattle.correction.specs.Terms.{offset_term, rate_term}
-use Rattle.correction.specs.External.{not_a_control, with_external}
+use Rattle.correction.specs.declared.external.Control.{Control}
+use Rattle.correction.specs.External.{not_a_control, sign_of, with_external}
 use Rattle.sync_list.specs.Lists.{listed}
 use Rattle.list_values.specs.Values.{offset_values, rate_values}
 use Rattle.clock.specs.declared.state.Clock.{Clock}
@@ -123,11 +124,14 @@ CycleClosed = Answered Report CloseRefusal Clock
 abbrev pub told : Closing → Told
 told answer = record { number = number_in number_of answer; report = result_unwrap_or answer no_report }
 
--- What closing works out before the state is put beside a refusal: the report with the state that comes after it, or the first refusal.
-abbrev pub ClosedSays : Clock → ℤ → ℤ → Result (Report × Clock) CloseRefusal → Type 0
-ClosedSays clock offset_control rate_control (Ok closed) =
-    (first (closing_refusals clock offset_control rate_control) ≡ 0) × (closed ≡ (report_of clock offset_control rate_control, closed_on clock))
-ClosedSays clock offset_control rate_control (Err refusal) = number_of refusal ≡ first (closing_refusals clock offset_control rate_control)
+-- What closing finds before it works anything out: both controls, by the numbers that were handed in, or the first refusal.
+abbrev pub ControlsSays : Clock → ℤ → ℤ → Result (Control × Control) CloseRefusal → Type 0
+ControlsSays clock offset_control rate_control (Ok controls) =
+    (sound clock ≡ true)
+    × (first (closing_refusals clock offset_control rate_control) ≡ 0)
+    × (sign_of controls.0 ≡ offset_control)
+    × (sign_of controls.1 ≡ rate_control)
+ControlsSays clock offset_control rate_control (Err refusal) = number_of refusal ≡ first (closing_refusals clock offset_control rate_control)
 
 -- What is to be told where the first refusal is n, or 0 for none.
 abbrev pub to_tell : Clock → ℤ → ℤ → ℕ → Told

@@ -7,7 +7,7 @@ ghost use Rattle.std.specs.Prelude.{◌≡◌, true};
 ghost use Rattle.correction.specs.External.{sign_of};
 ghost use Rattle.clock.specs.Sound.{sound};
 ghost use Rattle.closing.specs.declared.CloseRefusal.TheVariants.{NotAControl as CloseRefusal-as-NotAControl};
-ghost use Rattle.closing.specs.Closing.{number_of, offset_found, rate_found, report_of, closed_with, ClosedSays, CloseSays, no_report};
+ghost use Rattle.closing.specs.Closing.{number_of, offset_found, rate_found, report_of, closed_with, ControlsSays, CloseSays, no_report};
 
 use base_types::SignedMicrotick;
 use clock::Clock;
@@ -86,20 +86,24 @@ pub fn close_cycle(
 ) -> Answered<Report, CloseRefusal, Clock>
     ensures { CloseSays clock offset_control rate_control result }
 {
-    match closed(clock, offset_control, rate_control) {
-        Ok((report, next)) => Answered::accepted(report, next),
+    match controls(clock, offset_control, rate_control) {
+        Ok((offset, rate)) => {
+            let found = rate_found(clock);
+            let report = report_of(clock, found, offset, rate);
+            Answered::accepted(report, closed_with(clock, found.value))
+        }
         Err(refusal) => Answered::refused(refusal, clock),
     }
 }
 
-// The report, and the state that comes after it. The tests come in 01's order.
+// Both controls, where the cycle may be closed. The tests come in 01's order. (No state is handed on: a state is large, and each hand copies it.)
 #[tactic(auto, unfolding(refusal::specs::Refusal::first))]
-fn closed(
+fn controls(
     clock: Clock,
     offset_control: i32,
     rate_control: i32,
-) -> Result<(Report, Clock), CloseRefusal>
-    ensures { ClosedSays clock offset_control rate_control result }
+) -> Result<(Control, Control), CloseRefusal>
+    ensures { ControlsSays clock offset_control rate_control result }
 {
     if !clock::is_sound(clock) {
         return Err(CloseRefusal::NotSound);
@@ -109,9 +113,7 @@ fn closed(
     }
     let offset = Control::try_from(offset_control)?;
     let rate = Control::try_from(rate_control)?;
-    let found = rate_found(clock);
-    let report = report_of(clock, found, offset, rate);
-    Ok((report, closed_with(clock, found.value)))
+    Ok((offset, rate))
 }
 
 // The offset term, without its external term.

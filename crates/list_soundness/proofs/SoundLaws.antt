@@ -1,20 +1,24 @@
--- Rows are walked one by one: what is known of the IDs passed, and which row makes them unsound.
+-- Rows are walked one by one: what is known of the IDs passed, and which rows make them unsound.
 use Prim.Native.Nat.{ℕ, zero, suc, ◌+◌, ◌<◌, max}
-use mathlib.Core.Path.{◌≡◌, refl, ap}
+use mathlib.Core.Path.{◌≡◌, refl, sym, ap, ◌∙◌}
 use mathlib.Core.Bool.{true, false, false≢true, ◌||◌, and-false, or-true}
-use mathlib.Core.List.{List, [], ◌∷◌, ◌++◌, map-append}
+use mathlib.Core.List.{List, [], ◌∷◌, ◌++◌, map-append, Memᴰ}
 use native.Mathlib.Numerals.{add-one}
 use native.Mathlib.Omega.{arith}
 use borrow.Author.Tests.{eq-eqb, ne_eqb, eqb-true}
-use lib.Dec.{eqb}
+use lib.Dec.{eqb, leb}
 use lib.ListN.{length, get_or, take}
 use lib.Seq.{take-suc}
 use Rattle.std.specs.List.{list_any}
 use Rattle.numbers.proofs.Walk.{cases}
 use Rattle.base_types.specs.declared.id.Slot.{Slot}
+use Rattle.settings.specs.declared.Mark.{Mark}
 use Rattle.sync_list.specs.declared.row.Row.{Row}
-use Rattle.sync_list.specs.Lists.{id_of, ids_of, is_among, none_twice}
+use Rattle.sync_list.specs.declared.list.SyncList.{SyncList}
+use Rattle.sync_list.specs.Lists.{listed, id_of, ids_of, is_among, none_twice}
 use Rattle.sync_list.proofs.AmongLaws.{among_end, none_twice_end}
+use Rattle.list_soundness.specs.Sound.{rows_sound, row_marked, all_marked, list_sound}
+use Rattle.list_soundness.proofs.EachLaws.{each_member}
 
 -- an ID that is looked for among rows
 pub among_any : (id : Slot) (rows : List Row) → list_any (λ (row : Row). eqb row.id.0 id.0) rows ≡ is_among id.0 (ids_of rows)
@@ -63,3 +67,12 @@ id_twice (row ∷ rows) (suc i) d h e =
     cases (eqb (id_of row) id)
     (λ q. rw (eqb-true (id_of row) id q, there rows i d (omega arith)))
     (λ q. let rest : none_twice (ids_of rows) ≡ false = id_twice rows i d (omega arith) (rw q at e) in rw rest (and-false _))
+
+-- ---- a row without the mark
+
+pub unmarked-at : (limit : ℕ) (mark : Mark) (l : SyncList) (row : Row) → Memᴰ row (listed l) → row_marked mark row ≡ false
+    → list_sound limit mark l ≡ false
+unmarked-at limit mark l row mem e =
+    cases (all_marked mark (listed l))
+    (λ p. absurd (false≢true (sym e ∙ each_member (row_marked mark) (listed l) row p mem)))
+    (λ q. rw (q, and-false (none_twice (ids_of (listed l))), and-false (rows_sound (listed l))) (and-false (leb l.count limit)))

@@ -13,8 +13,8 @@ use settings::Mark;
 use sync_list::{Measurement, Row, SyncList};
 
 // Whether it holds at most the limit of rows, each one right and with the mark, and no ID twice.
-pub fn is_sound(list: SyncList, limit: u32, mark: Mark) -> bool
-    ensures { result ≡ list_sound limit mark list }
+pub fn is_sound(list: &SyncList, limit: u32, mark: Mark) -> bool
+    ensures { result ≡ list_sound limit mark list.now }
 {
     let rows = list.listed();
     list.count <= limit as usize && rows_sound(rows) && none_twice(rows) && all_marked(rows, mark)

@@ -56,7 +56,7 @@ module _ {clock : Clock} {status : Status} {observed action_point : Microtick} {
   told20 e = sym (first_at past14 (none_if (no_sync_frame status) (frame_of status) e))
 
   module _ {frame : Header} (found : sync_frame status ≡ Some frame) where
-    frame_is : frame_of status ≡ frame
+    pub frame_is : frame_of status ≡ frame
     frame_is = (some_if (no_sync_frame status) (frame_of status) frame found).1
 
     cycle_is : current_cycle clock ≡ cycle

@@ -1,5 +1,5 @@
 -- Measuring a sync frame: what it answers, and the clock state that comes back (01, "Clock").
-use Rattle.std.specs.Prelude.{ℕ, ◌≡◌, Bool, not, ◌&&◌, ◌||◌, cond, is_some, unwrap_or, List, [], ◌∷◌, Option, None, Some, Result, Ok, Err, eqb, ℤ, pos}
+use Rattle.std.specs.Prelude.{ℕ, ◌≡◌, Bool, true, false, not, ◌&&◌, ◌||◌, cond, is_some, unwrap_or, List, [], ◌∷◌, Option, None, Some, Result, Ok, Err, eqb, ℤ, pos}
 use Rattle.std.specs.Result.{result_unwrap_or}
 use Rattle.refusal.specs.Answer.{number_in}
 use Rattle.refusal.specs.declared.Answered.{Answered}
@@ -122,17 +122,15 @@ abbrev pub measured_on : Clock → Status → Measurement → Clock
 measured_on clock status m =
     with_list (current_cycle clock) (recorded (frame_of status).id status.channel m (list_of (current_cycle clock) clock)) clock
 
--- What measuring works out before the state is put beside a refusal: the deviation with the state that has the measurement, or the first
--- refusal.
-abbrev pub TakenSays : Clock → Status → Microtick → Microtick → Result (SignedMicrotick × Clock) MeasureRefusal → Type 0
-TakenSays clock status observed action_point (Ok taken) =
-    (first (measure_refusals clock status observed action_point) ≡ 0)
-    × (taken
-    ≡ (
-      record { 0 = deviation_by clock status observed action_point },
-      measured_on clock status (measurement_by clock status observed action_point),
-    ))
-TakenSays clock status observed action_point (Err refusal) = number_of refusal ≡ first (measure_refusals clock status observed action_point)
+-- What measuring finds before it works anything out: the frame, where both states are sound and both times accepted, or the first refusal.
+abbrev pub FrameSays : Clock → Status → Microtick → Microtick → Result Header MeasureRefusal → Type 0
+FrameSays clock status observed action_point (Ok frame) =
+    (sound clock ≡ true)
+    × (above_time_limit observed.0 ≡ false)
+    × (above_time_limit action_point.0 ≡ false)
+    × (first (measure_refusals clock status observed action_point) ≡ 0)
+    × (frame ≡ frame_of status)
+FrameSays clock status observed action_point (Err refusal) = number_of refusal ≡ first (measure_refusals clock status observed action_point)
 
 -- The answer's number is the refusal, and its deviation 01's. The clock state has the measurement, or, with a refusal, is the one
 -- handed in.

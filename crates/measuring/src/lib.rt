@@ -5,7 +5,7 @@
 
 ghost use Rattle.std.specs.Prelude.{◌≡◌};
 ghost use Rattle.base_types.specs.Microtick.{held};
-ghost use Rattle.measuring.specs.Measuring.{number_of, sync_frame, delay_on, deviation_by, measurement_with, TakenSays, MeasureSays};
+ghost use Rattle.measuring.specs.Measuring.{number_of, sync_frame, delay_on, deviation_by, measurement_with, FrameSays, MeasureSays};
 
 use base_types::{Channel, Microtick, SignedMicrotick};
 use clock::Clock;
@@ -54,21 +54,27 @@ pub fn measure(
 ) -> Answered<SignedMicrotick, MeasureRefusal, Clock>
     ensures { MeasureSays clock status observed action_point result }
 {
-    match taken(clock, status, observed, action_point) {
-        Ok((deviation, next)) => Answered::accepted(deviation, next),
+    match frame_to_measure(clock, status, observed, action_point) {
+        Ok(frame) => {
+            let cycle = clock.current_cycle();
+            let list = clock.list_of(cycle);
+            let measurement = measurement_by(clock, status, observed, action_point);
+            let next = list.with(frame.id, status.channel, measurement);
+            Answered::accepted(measurement.deviation, clock.with_list(cycle, next))
+        }
         Err(refusal) => Answered::refused(refusal, clock),
     }
 }
 
-// The deviation, and the state with the measurement in the open cycle's list. The tests come in 01's order.
+// The frame that is measured. The tests come in 01's order. (No state is handed on: a state is large, and each hand copies it.)
 #[tactic(auto, unfolding(refusal::specs::Refusal::first))]
-fn taken(
+fn frame_to_measure(
     clock: Clock,
     status: Status,
     observed: Microtick,
     action_point: Microtick,
-) -> Result<(SignedMicrotick, Clock), MeasureRefusal>
-    ensures { TakenSays clock status observed action_point result }
+) -> Result<Header, MeasureRefusal>
+    ensures { FrameSays clock status observed action_point result }
 {
     if !clock::is_sound(clock) || !slot::is_sound(status) {
         return Err(MeasureRefusal::NotSound);
@@ -92,9 +98,7 @@ fn taken(
     if list.is_full_for(clock.settings.get(Field::SyncIdLimit), frame.id) {
         return Err(MeasureRefusal::ListFull);
     }
-    let measurement = measurement_by(clock, status, observed, action_point);
-    let next = list.with(frame.id, status.channel, measurement);
-    Ok((measurement.deviation, clock.with_list(cycle, next)))
+    Ok(frame)
 }
 
 // The frame that a status keeps, where it is a sync frame of a static slot. Any other status is refusal 20.

@@ -9,13 +9,17 @@ use std::fmt;
 use std::fmt::{Display, Formatter};
 use std::io::Read;
 
+// How many bytes a clock state has: two cycles with their switches and a rate stand between the sheet and the lists.
+const SIZE: usize = sheet::SIZE + 8 + 2 * lists::SIZE + sheet::MARK_SIZE + 2 * lists::MARKS_SIZE;
+
 // `K`: `clock put`
 pub fn put(
     script: &mut Script<impl Read>,
     to: &impl Print,
     clock: &mut Clock,
 ) -> Result<(), ScriptError> {
-    *clock = take(script)?;
+    let bytes = script.array::<SIZE>()?;
+    *clock = take(&mut Script::new(&bytes[..]))?;
     line::write(to, "clock put");
     Ok(())
 }

@@ -5,9 +5,11 @@ use base_types::{Cycle, Microtick, SignedMicrotick};
 use clock::Clock;
 use closing::Report;
 use refusal::Answer;
-use settings::SettingOutOfRange;
 use slot::Status;
 use std::io::Read;
+
+// How many bytes stand behind `L`.
+const LOAD_SIZE: usize = sheet::SIZE + sheet::MARK_SIZE;
 
 // `L`, with settings and mark: `load N FIELD`
 pub fn load(
@@ -15,14 +17,13 @@ pub fn load(
     to: &impl Print,
     clock: &mut Clock,
 ) -> Result<(), ScriptError> {
-    let mut settings = sheet::take(script)?;
-    settings.mark = sheet::take_mark(script)?;
+    let bytes = script.array::<LOAD_SIZE>()?;
+    let mut item = Script::new(&bytes[..]);
+    let mut settings = sheet::take(&mut item)?;
+    settings.mark = sheet::take_mark(&mut item)?;
     let loaded = clock::load(settings);
     *clock = loaded.state;
-    let field = match loaded.answer {
-        Ok(()) => 0,
-        Err(SettingOutOfRange(field)) => field,
-    };
+    let field = clock::field_told(loaded.answer);
     line::write(to, format_args!("load {} {field}", loaded.answer.number()));
     Ok(())
 }
@@ -47,8 +48,10 @@ pub fn measure(
     clock: &mut Clock,
     status: Status,
 ) -> Result<(), ScriptError> {
-    let observed = Microtick(script.u32()?);
-    let action_point = Microtick(script.u32()?);
+    let bytes = script.array::<8>()?;
+    let mut item = Script::new(&bytes[..]);
+    let observed = Microtick(item.u32()?);
+    let action_point = Microtick(item.u32()?);
     let measured = measuring::measure(*clock, status, observed, action_point);
     *clock = measured.state;
     let deviation = measured.answer.unwrap_or(SignedMicrotick(0));
@@ -65,8 +68,10 @@ pub fn close_cycle(
     to: &impl Print,
     clock: &mut Clock,
 ) -> Result<(), ScriptError> {
-    let offset_control = i32::from(script.i8()?);
-    let rate_control = i32::from(script.i8()?);
+    let bytes = script.array::<2>()?;
+    let mut item = Script::new(&bytes[..]);
+    let offset_control = i32::from(item.i8()?);
+    let rate_control = i32::from(item.i8()?);
     let closed = closing::close_cycle(*clock, offset_control, rate_control);
     *clock = closed.state;
     let report = closed.answer.unwrap_or(Report::NONE);

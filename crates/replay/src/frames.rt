@@ -4,7 +4,6 @@ use crate::line;
 use crate::line::{Hex, Shown};
 use crate::script::{MOST, Script, ScriptError};
 use base_types::{Cycle, Slot};
-use checksum::ChecksumPair;
 use header::Fields;
 use refusal::{Answer, Refusal};
 use std::io::Read;
@@ -49,8 +48,10 @@ pub fn read(script: &mut Script<impl Read>, to: &impl Print) -> Result<(), Scrip
 
 // `W`, with channel, flags, ID, cycle, payload and room: `write N LENGTH OUTPUT`
 pub fn write(script: &mut Script<impl Read>, to: &impl Print) -> Result<(), ScriptError> {
-    let channel = script.u8()?;
-    let fields = take_fields(script)?;
+    let bytes = script.array::<5>()?;
+    let mut item = Script::new(&bytes[..]);
+    let channel = item.u8()?;
+    let fields = take_fields(&mut item)?;
     let mut space = [0; MOST];
     let payload = script.bytes(&mut space)?;
     let room = script.size(MOST)?;
@@ -84,18 +85,13 @@ fn take_fields(script: &mut Script<impl Read>) -> Result<Fields, ScriptError> {
 
 // `E`, with channel, start length, bytes and room: `encode N BITS OUTPUT FOUND EXPECTED`
 pub fn encode(script: &mut Script<impl Read>, to: &impl Print) -> Result<(), ScriptError> {
-    let channel = script.u8()?;
-    let start = script.u8()?;
+    let [channel, start] = script.array::<2>()?;
     let mut space = [0; MOST];
     let bytes = script.bytes(&mut space)?;
     let room = script.size(MOST)?;
     let mut output = [UNTOUCHED; MOST];
     let lent = &mut output[..room];
     let encoding = wire::encode(channel, bytes, start, lent);
-    let checksums = match encoding {
-        Ok(_) => ChecksumPair::NONE,
-        Err(refusal) => refusal.checksums(),
-    };
     line::write(
         to,
         format_args!(
@@ -103,7 +99,7 @@ pub fn encode(script: &mut Script<impl Read>, to: &impl Print) -> Result<(), Scr
             encoding.number(),
             encoding.unwrap_or(0),
             Hex(lent),
-            Shown(checksums)
+            Shown(wire::checksums_told(encoding))
         ),
     );
     Ok(())

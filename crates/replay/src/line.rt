@@ -1,12 +1,18 @@
 // The lines of the output, and what they show of the libraries' values.
+use arrayvec::ArrayString;
 use checksum::ChecksumPair;
 use header::Header;
 use std::fmt;
-use std::fmt::{Display, Formatter};
+use std::fmt::{Display, Formatter, Write};
 
-// Writes a line. A write that fails is left at that.
+// Room for every line. The longest is that of a clock state whose numbers have as many digits as they can: 1,810 characters.
+const ROOM: usize = 1900;
+
+// Writes a line in one piece. A write that fails is left at that.
 pub fn write(to: &impl Print, line: impl Display + Drop) {
-    let _ = to.println(line);
+    let mut text = ArrayString::<ROOM>::new();
+    let _ = writeln!(text, "{line}");
+    let _ = to.write_all(text.as_bytes());
 }
 
 // A value as a line shows it: its numbers, with a space between each and the next. What a value does not have shows as 0.
@@ -46,6 +52,9 @@ pub fn flags_in(header: Header) -> [bool; 5] {
     ]
 }
 
+// How many bytes are written at once: one by one, they would take most of a long line's time.
+const PART: usize = 64;
+
 // Bytes in lower-case hex, or `-` where there are none.
 #[derive(Clone, Copy)]
 pub struct Hex<'a>(pub &'a [u8]);
@@ -55,8 +64,11 @@ impl Display for Hex<'_> {
         if self.0.is_empty() {
             return f.write_str("-");
         }
-        for byte in self.0 {
-            write!(f, "{byte:02x}")?;
+        let mut space = [0; 2 * PART];
+        for part in self.0.chunks(PART) {
+            let digits = space.get_mut(..2 * part.len()).ok_or(fmt::Error)?;
+            hex::encode_to_slice(part, digits).map_err(|_| fmt::Error)?;
+            f.write_str(str::from_utf8(digits).map_err(|_| fmt::Error)?)?;
         }
         Ok(())
     }

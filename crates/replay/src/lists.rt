@@ -10,6 +10,11 @@ use std::fmt::{Display, Formatter};
 use std::io::Read;
 use sync_list::{Measurement, ROWS, Row, SyncList};
 
+// How many bytes a list has, a count and the rows, and how many the marks of its rows.
+pub const SIZE: usize = 1 + 11 * ROWS;
+
+pub const MARKS_SIZE: usize = 2 * sheet::MARK_SIZE * ROWS;
+
 // A count and the rows; the marks of its measurements stand further back. A row behind the count is taken as it stands; the list itself
 // knows that it is not listed.
 pub fn take(script: &mut Script<impl Read>) -> Result<SyncList, ScriptError> {

@@ -4,7 +4,7 @@ use crate::line;
 use crate::line::{Hex, Shown};
 use crate::script::{Script, ScriptError};
 use arrayvec::ArrayVec;
-use refusal::{Answer, Refusal};
+use refusal::Refusal;
 use std::io::Read;
 use wire_reader::{Listening, Reader};
 
@@ -29,11 +29,16 @@ pub fn listen(
 // The samples of the runs. (The space is fixed, so that no piece fails for lack of memory.)
 fn take_samples(script: &mut Script<impl Read>) -> Result<ArrayVec<u8, MOST_SAMPLES>, ScriptError> {
     let runs = script.size(MOST_RUNS)?;
+    let mut space = [0; 2 * MOST_RUNS];
+    let bytes = &mut space[..2 * runs];
+    script.fill(bytes)?;
     let mut samples = ArrayVec::new();
-    for _ in 0..runs {
-        let [sample, count] = script.array::<2>()?;
-        for _ in 0..count {
-            samples.try_push(sample).map_err(|_| ScriptError)?;
+    for run in bytes.chunks_exact(2) {
+        let [sample, count] = run else {
+            return Err(ScriptError);
+        };
+        for _ in 0..*count {
+            samples.try_push(*sample).map_err(|_| ScriptError)?;
         }
     }
     Ok(samples)
@@ -57,27 +62,24 @@ fn hear_all(to: &impl Print, reader: &mut Reader, samples: &[u8], memory: &mut [
 // `heard N TAKEN FOUND EXPECTED`, or, with a frame,
 // `heard 0 TAKEN SINCE RESERVED PREAMBLE NULL SYNC STARTUP ID WORDS CHECKSUM CYCLE BYTES FOUND EXPECTED`
 fn write_answer(to: &impl Print, answer: Listening, taken: usize, memory: &[u8]) {
-    match answer {
-        Ok(Some(Ok(frame))) => {
-            let bytes = memory.get(..frame.size).unwrap_or(memory);
-            line::write(
-                to,
-                format_args!(
-                    "heard 0 {taken} {} {} {} 0 0",
-                    frame.since,
-                    Shown(frame.header),
-                    Hex(bytes)
-                ),
-            );
-        }
-        Ok(Some(Err(error))) => line::write(
+    let event = answer.unwrap_or(None);
+    let checksums = Shown(wire_reader::checksums_told(event));
+    if let Some(Ok(frame)) = event {
+        let bytes = memory.get(..frame.size).unwrap_or(memory);
+        line::write(
             to,
             format_args!(
-                "heard {} {taken} {}",
-                error.number(),
-                Shown(error.checksums())
+                "heard 0 {taken} {} {} {} {checksums}",
+                frame.since,
+                Shown(frame.header),
+                Hex(bytes)
             ),
-        ),
-        _ => line::write(to, format_args!("heard {} {taken} 0 0", answer.number())),
+        );
+        return;
     }
+    let number = match answer {
+        Ok(event) => wire_reader::number_told(event),
+        Err(refusal) => refusal.number(),
+    };
+    line::write(to, format_args!("heard {number} {taken} {checksums}"));
 }

@@ -22,13 +22,17 @@ pub fn open(
     Ok(())
 }
 
+// How many bytes a reader has.
+const SIZE: usize = 16;
+
 // `V`: `reader put`
 pub fn put(
     script: &mut Script<impl Read>,
     to: &impl Print,
     reader: &mut Reader,
 ) -> Result<(), ScriptError> {
-    *reader = take(script)?;
+    let bytes = script.array::<SIZE>()?;
+    *reader = take(&mut Script::new(&bytes[..]))?;
     line::write(to, "reader put");
     Ok(())
 }

@@ -80,6 +80,8 @@ impl<R: Read> Script<R> {
         Ok(bytes)
     }
 
+    // So many bytes, taken in one call. Where they are an item, its values are taken of them as of a script of their own: a call for each would
+    // take most of a run's time, since standard input holds nothing back.
     pub fn array<const N: usize>(&mut self) -> Result<[u8; N], ScriptError> {
         let mut bytes = [0; N];
         self.fill(&mut bytes)?;
@@ -87,7 +89,7 @@ impl<R: Read> Script<R> {
     }
 
     // A read that fails ends the script.
-    fn fill(&mut self, bytes: &mut [u8]) -> Result<(), ScriptError> {
+    pub fn fill(&mut self, bytes: &mut [u8]) -> Result<(), ScriptError> {
         self.from.read_exact(bytes).map_err(|_| ScriptError)
     }
 }

@@ -6,6 +6,11 @@ use std::fmt;
 use std::fmt::{Display, Formatter};
 use std::io::Read;
 
+// How many bytes a sheet has, and its mark.
+pub const SIZE: usize = 4 * FIELDS + 1;
+
+pub const MARK_SIZE: usize = 4;
+
 // The fields, and the switch. The mark stands further back, and is 0 until it is taken.
 pub fn take(script: &mut Script<impl Read>) -> Result<Settings, ScriptError> {
     let mut fields = [0; FIELDS];

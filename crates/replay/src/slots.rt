@@ -7,23 +7,25 @@ use slot::Status;
 use slot_events::Judged;
 use std::io::Read;
 
+// How many bytes stand behind `S`.
+const OPEN_SIZE: usize = sheet::SIZE + 4 + sheet::MARK_SIZE;
+
 // `S`, with settings, channel, slot, cycle and mark: `slot N FIELD`
 pub fn open(
     script: &mut Script<impl Read>,
     to: &impl Print,
     status: &mut Status,
 ) -> Result<(), ScriptError> {
-    let mut settings = sheet::take(script)?;
-    let channel = script.u8()?;
-    let slot = Slot(script.u16()?);
-    let cycle = Cycle(script.u8()?);
-    settings.mark = sheet::take_mark(script)?;
+    let bytes = script.array::<OPEN_SIZE>()?;
+    let mut item = Script::new(&bytes[..]);
+    let mut settings = sheet::take(&mut item)?;
+    let channel = item.u8()?;
+    let slot = Slot(item.u16()?);
+    let cycle = Cycle(item.u8()?);
+    settings.mark = sheet::take_mark(&mut item)?;
     let opened = slot::open_slot(settings, channel, slot, cycle);
     *status = opened.state;
-    let field = match opened.answer {
-        Ok(()) => 0,
-        Err(refusal) => refusal.field(),
-    };
+    let field = slot::field_told(opened.answer);
     line::write(to, format_args!("slot {} {field}", opened.answer.number()));
     Ok(())
 }

@@ -11,13 +11,17 @@ use std::fmt;
 use std::fmt::{Display, Formatter};
 use std::io::Read;
 
+// How many bytes a status has: fourteen between the sheet and its mark, and two checksums.
+const SIZE: usize = sheet::SIZE + 14 + sheet::MARK_SIZE + 8;
+
 // `T`: `status put`
 pub fn put(
     script: &mut Script<impl Read>,
     to: &impl Print,
     status: &mut Status,
 ) -> Result<(), ScriptError> {
-    *status = take(script)?;
+    let bytes = script.array::<SIZE>()?;
+    *status = take(&mut Script::new(&bytes[..]))?;
     line::write(to, "status put");
     Ok(())
 }

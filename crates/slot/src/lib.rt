@@ -14,6 +14,6 @@ mod sound;
 mod status;
 
 pub use content::{first_miss, is_static};
-pub use opening::{OpenRefusal, Opened, open_slot};
+pub use opening::{OpenRefusal, Opened, field_told, open_slot};
 pub use sound::is_sound;
 pub use status::{Miss, Reason, Status};

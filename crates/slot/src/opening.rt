@@ -1,7 +1,7 @@
 // A slot opened.
 ghost use Rattle.std.specs.Prelude.{◌≡◌};
 ghost use Rattle.slot.specs.declared.opening.OpenRefusal.TheVariants.{SettingOutOfRange as OpenRefusal-as-SettingOutOfRange, NotAChannel as OpenRefusal-as-NotAChannel};
-ghost use Rattle.slot.specs.Opening.{number_of, field_of, OpenSays, OpensTo};
+ghost use Rattle.slot.specs.Opening.{number_of, field_of, told, OpenSays, OpensTo};
 
 use crate::status::Status;
 use base_types::{Channel, Cycle, NotAChannel, Slot};
@@ -55,6 +55,16 @@ impl OpenRefusal {
             return 0;
         };
         field
+    }
+}
+
+// The field number that an answer tells: that of its refusal, and 0 where the slot is opened.
+pub fn field_told(answer: Result<(), OpenRefusal>) -> u8
+    ensures { result ≡ (told answer).field }
+{
+    match answer {
+        Ok(()) => 0,
+        Err(refusal) => refusal.field(),
     }
 }
 

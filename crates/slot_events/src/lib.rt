@@ -4,7 +4,7 @@
 // a status.
 #![tactic(auto, unfolding(refusal::specs::Refusal::first))]
 
-ghost use Rattle.std.specs.Prelude.{◌≡◌};
+ghost use Rattle.std.specs.Prelude.{◌≡◌, Err};
 ghost use Rattle.slot_events.specs.Effect.{arrival, boundary_activity, own_sending, of_refused, of_accepted, reason_in, joined};
 ghost use Rattle.slot_events.specs.Events.{refusal_number, EventSays};
 
@@ -34,7 +34,7 @@ pub fn arrived(status: Status, bytes: &[u8]) -> Judged
     ensures { EventSays status (arrival bytes.now) result }
 {
     if !slot::is_sound(status) {
-        return Answered::refused(NotSound, status);
+        return not_sound(status);
     }
     let reading = frame::read_on(status.channel, bytes);
     let Ok(header) = reading else {
@@ -50,7 +50,7 @@ pub fn boundary(status: Status) -> Judged
     ensures { EventSays status boundary_activity result }
 {
     if !slot::is_sound(status) {
-        return Answered::refused(NotSound, status);
+        return not_sound(status);
     }
     Answered::accepted(
         (),
@@ -66,7 +66,7 @@ pub fn sent(status: Status) -> Judged
     ensures { EventSays status own_sending result }
 {
     if !slot::is_sound(status) {
-        return Answered::refused(NotSound, status);
+        return not_sound(status);
     }
     Answered::accepted(
         (),
@@ -76,6 +76,13 @@ pub fn sent(status: Status) -> Judged
             ..status
         },
     )
+}
+
+// Refusal 23, and the status that was handed in.
+fn not_sound(handed_in: Status) -> Judged
+    ensures { result ≡ record { answer = Err (record {}); state = handed_in } }
+{
+    Answered::refused(NotSound, handed_in)
 }
 
 // The status after an arrival that is refused, by the two checksums that reading tells: those of the first such are kept. It gives no reason

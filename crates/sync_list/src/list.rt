@@ -56,29 +56,29 @@ impl SyncList {
     }
 
     // Refusal 16, of the cycle of this list.
-    pub fn has(self, id: Slot, channel: Channel) -> bool
-        ensures { result ≡ is_measured_on id channel self }
+    pub fn has(&self, id: Slot, channel: Channel) -> bool
+        ensures { result ≡ is_measured_on id channel self.now }
     {
         self.row_of(id).on(channel).is_some()
     }
 
     // Refusal 15, of the cycle of this list.
-    pub fn is_full_for(self, limit: u32, id: Slot) -> bool
-        ensures { result ≡ is_full_for limit id self }
+    pub fn is_full_for(&self, limit: u32, id: Slot) -> bool
+        ensures { result ≡ is_full_for limit id self.now }
     {
         limit as usize <= self.count && self.place(id).is_none()
     }
 
     // The list with a measurement: in the row of its ID, or in a new one, which is the last. A list whose rows are all listed takes
     // no new ID: below the limit there is room.
-    pub fn with(self, id: Slot, channel: Channel, measurement: Measurement) -> SyncList
-        ensures { result ≡ recorded id channel measurement self }
+    pub fn with(&self, id: Slot, channel: Channel, measurement: Measurement) -> SyncList
+        ensures { result ≡ recorded id channel measurement self.now }
     {
         let place = self.place(id).unwrap_or(self.count);
         if ROWS <= place {
-            return self;
+            return *self;
         }
-        let mut next = self;
+        let mut next = *self;
         next.rows[place] = self.row_of(id).with(channel, measurement);
         next.count = self.count.max(place + 1);
         next

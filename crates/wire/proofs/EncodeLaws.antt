@@ -26,7 +26,7 @@ module _ (channel : ℕ) (bytes : List ℕ) (start : ℕ) (output : List ℕ) wh
       → (refusal channel bytes start output ≡ 0 → ⊥) → EncodeSays channel bytes start output output (Err r)
   refuse r n pair some =
       let none = if_refused (refusal channel bytes start output) (length (stream start bytes)) 0 some in
-      record { answers = λ i. record { number = n i; checksums = pair i; bits = sym none i }; writes = sym (if_refused _ _ _ some) }
+      record { answers = λ i. record { refusal = read.refused_with (n i) (pair i); bits = sym none i }; writes = sym (if_refused _ _ _ some) }
 
   -- reading refuses
   pub not_a_frame : (r : ReadRefusal) → ReadSays channel bytes (Err r) → EncodeSays channel bytes start output output (Err (NotAFrame r))
@@ -57,6 +57,6 @@ module _ (channel : ℕ) (bytes : List ℕ) (start : ℕ) (output : List ℕ) wh
     encode-accepted after count e s w =
         let whole = s ∙ sym (if_accepted_lem _ _ _ e) in
         record {
-          answers = λ i. record { number = sym e i; checksums = none_told i; bits = whole i };
+          answers = λ i. record { refusal = read.refused_with (sym e i) (none_told i); bits = whole i };
           writes = w ∙ sym (if_accepted_lem _ _ _ e);
         }

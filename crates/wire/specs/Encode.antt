@@ -13,11 +13,10 @@ use Rattle.wire.specs.Stream.{stream}
 use Rattle.wire.specs.Packing.{packed}
 use Rattle.wire.specs.Refusals.{not_a_start_length, output_too_short}
 
--- What an answer says in 01's numbers: the refusal number, 0 for none, the checksums that were found and worked out, and the number of
--- bits, 0 with a refusal.
+-- What an answer says in 01's numbers. What is refused is told as reading tells it, with all that reading tells beside a number; beside
+-- 24 and 25, and beside 0, which is no refusal, it is the number alone. With it comes the number of bits, 0 with a refusal.
 pub record Told : Type 0 where
-  pub number : ℕ
-  pub checksums : ChecksumPair
+  pub refusal : read.Told
   pub bits : ℕ
 
 -- The number of each refusal. What reading refuses has reading's.
@@ -41,7 +40,8 @@ checksums_in (Ok count) = no_checksums
 checksums_in (Err refusal) = checksums_of refusal
 
 abbrev pub told : Encoding → Told
-told answer = record { number = number_in number_of answer; checksums = checksums_in answer; bits = result_unwrap_or answer 0 }
+told answer =
+    record { refusal = read.refused_with (number_in number_of answer) (checksums_in answer); bits = result_unwrap_or answer 0 }
 
 -- The refusals of the entry, in their order: "after the read refusals 1 to 8 of the frame bytes" 24 and 25.
 abbrev pub own_refusals : List ℕ → ℕ → List ℕ → List Line
@@ -58,7 +58,10 @@ refusal channel bytes start output = first (refusals channel bytes start output)
 abbrev pub rule : ℕ → List ℕ → ℕ → List ℕ → Told
 rule channel bytes start output =
     let n = refusal channel bytes start output in
-    record { number = n; checksums = (read.rule channel bytes).checksums; bits = if_accepted n (length (stream start bytes)) 0 }
+    record {
+      refusal = read.refused_with n (read.rule channel bytes).checksums;
+      bits = if_accepted n (length (stream start bytes)) 0;
+    }
 
 -- The whole output afterwards: the packed stream over its front ("Later bytes stay"), or, with a refusal, as it was.
 abbrev pub encoded : ℕ → List ℕ → ℕ → List ℕ → List ℕ

@@ -9,7 +9,7 @@ ghost use Rattle.std.specs.Prelude.{◌≡◌};
 ghost use Rattle.wire.specs.declared.EncodeRefusal.TheVariants.{NotAFrame as EncodeRefusal-as-NotAFrame};
 ghost use Rattle.wire.specs.Packing.{most_packed};
 ghost use Rattle.wire.specs.Refusals.{not_a_start_length};
-ghost use Rattle.wire.specs.Encode.{number_of, checksums_of, EncodeSays};
+ghost use Rattle.wire.specs.Encode.{number_of, checksums_of, told, EncodeSays};
 
 use checksum::ChecksumPair;
 use frame::ReadRefusal;
@@ -55,6 +55,16 @@ impl EncodeRefusal {
             EncodeRefusal::NotAFrame(refusal) => refusal.checksums(),
             _ => ChecksumPair::NONE,
         }
+    }
+}
+
+// The two checksums that an answer tells: those of its refusal, and 0 for both where the bits are encoded.
+pub fn checksums_told(answer: Encoding) -> ChecksumPair
+    ensures { result ≡ (told answer).refusal.checksums }
+{
+    match answer {
+        Ok(_) => ChecksumPair::NONE,
+        Err(refusal) => refusal.checksums(),
     }
 }
 

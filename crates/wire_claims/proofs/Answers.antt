@@ -28,8 +28,8 @@ use Rattle.wire_claims.specs.Answers.{EncodeOne, EncodeInOrder, EncodeRefused, E
 
 -- the number is that of the order
 pub told_number : (channel : ℕ) (bytes : List ℕ) (start : ℕ) (output : List ℕ) {after : List ℕ} (r : Encoding)
-    → EncodeSays channel bytes start output after r → (told r).number ≡ refusal channel bytes start output
-told_number channel bytes start output r h = ap (λ (t : Told). t.number) h.answers
+    → EncodeSays channel bytes start output after r → (told r).refusal.number ≡ refusal channel bytes start output
+told_number channel bytes start output r h = ap (λ (t : Told). t.refusal.number) h.answers
 
 -- ---- one answer
 
@@ -40,10 +40,10 @@ passed_on (Err refused) = Err (NotAFrame refused)
 
 encoding_by : Told → Encoding
 encoding_by t =
-    cond (eqb t.number 0) (Ok t.bits)
-    (cond (eqb t.number 24) (Err NotAStartLength)
-    (cond (eqb t.number 25) (Err OutputTooShort)
-    (passed_on (reading_by (record { number = t.number; header = no_header; checksums = t.checksums })))))
+    cond (eqb t.refusal.number 0) (Ok t.bits)
+    (cond (eqb t.refusal.number 24) (Err NotAStartLength)
+    (cond (eqb t.refusal.number 25) (Err OutputTooShort)
+    (passed_on (reading_by t.refusal))))
 
 encoding_by_lem : (r : Encoding) → encoding_by (told r) ≡ r
 unfolding encoding_by passed_on

@@ -149,7 +149,7 @@ accepted channel bytes start before f =
 pub encode_exactly : EncodeExactly
 encode_exactly channel bytes start before after r are h = (
   λ e. encodable channel bytes start before are
-      (sym (told_number channel bytes start before r h) ∙ ap (λ (x : Encoding). (told x).number) e),
+      (sym (told_number channel bytes start before r h) ∙ ap (λ (x : Encoding). (told x).refusal.number) e),
   λ f. let none = accepted channel bytes start before f in
       (encode_one channel bytes start before after _ r (Ok (bits_of start bytes)) h
       (encode-accepted channel bytes start before none.0 _ (bits_of start bytes) none.1 (sym (length-stream start bytes)) refl)).0,

@@ -16,7 +16,7 @@ use Rattle.wire_claims.proofs.Answers.{told_number, encode_in_order, encode_refu
 use Rattle.wire_claims.proofs.Streams.{stream_tells, encode_lays, encodable, encode_exactly}
 
 module _ (channel : ℕ) (bytes : List ℕ) (start : ℕ) (before after : List ℕ) (r : Encoding) (says : EncodeSays channel bytes start before after r) where
-  pub number_told : NumberTold channel bytes start before after (told r).number
+  pub number_told : NumberTold channel bytes start before after (told r).refusal.number
   number_told =
       record {
         order = encode_in_order channel bytes start before after r says;

@@ -21,13 +21,13 @@ abbrev pub EncodeInOrder : Type 0
 EncodeInOrder =
     (channel : ℕ) (bytes : List ℕ) (start : ℕ) (before after : List ℕ) (r : Encoding)
     → EncodeSays channel bytes start before after r
-    → InOrder (refusals channel bytes start before) (told r).number
+    → InOrder (refusals channel bytes start before) (told r).refusal.number
 
 -- A refusal comes with no bits and changes nothing.
 abbrev pub EncodeRefused : Type 0
 EncodeRefused =
     (channel : ℕ) (bytes : List ℕ) (start : ℕ) (before after : List ℕ) (r : Encoding)
-    → EncodeSays channel bytes start before after r → ((told r).number ≡ 0 → ⊥)
+    → EncodeSays channel bytes start before after r → ((told r).refusal.number ≡ 0 → ⊥)
     → ((told r).bits ≡ 0) × (after ≡ before)
 
 -- Where reading refuses the bytes, its refusal is the one that comes back.
@@ -43,7 +43,7 @@ EncodeAsRead =
 abbrev pub RoomForAll : Type 0
 RoomForAll =
     (channel : ℕ) (bytes : List ℕ) (start : ℕ) (before after : List ℕ) (r : Encoding)
-    → EncodeSays channel bytes start before after r → (told r).number ≡ 25 → length before < most_packed
+    → EncodeSays channel bytes start before after r → (told r).refusal.number ≡ 25 → length before < most_packed
 
 -- ---- what the witnesses show
 

@@ -1,6 +1,7 @@
 // What a sample tells.
 ghost use Rattle.std.specs.Prelude.{◌≡◌};
 ghost use Rattle.wire_reader.specs.Event.{number_of, checksums_of};
+ghost use Rattle.wire_reader.specs.Listening.{told_by, number_in, checksums_in};
 
 use checksum::ChecksumPair;
 use frame::ReadRefusal;
@@ -57,5 +58,25 @@ impl WireError {
             WireError::NotAFrame(refusal) => refusal.checksums(),
             _ => ChecksumPair::NONE,
         }
+    }
+}
+
+// 01's number of an event: 0, or that of the error.
+pub fn number_told(event: Event) -> u8
+    ensures { result ≡ number_in (told_by event) }
+{
+    match event {
+        Some(Err(error)) => error.number(),
+        _ => 0,
+    }
+}
+
+// The two checksums that an event tells: those of its error, and 0 for both with any other.
+pub fn checksums_told(event: Event) -> ChecksumPair
+    ensures { result ≡ checksums_in (told_by event) }
+{
+    match event {
+        Some(Err(error)) => error.checksums(),
+        _ => ChecksumPair::NONE,
     }
 }

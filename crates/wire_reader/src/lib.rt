@@ -17,7 +17,7 @@ mod opening;
 mod phase;
 mod reader;
 
-pub use event::{Event, Heard, WireError};
+pub use event::{Event, Heard, WireError, checksums_told, number_told};
 pub use listening::{ListenRefusal, Listened, Listening, listen};
 pub use opening::open_reader;
 pub use phase::Phase;

@@ -1,18 +1,16 @@
--- `taken` meets its contract: the refusals in 01's order, each by an early return; the deviation is held whole.
+-- `frame_to_measure` meets its contract: the refusals in 01's order, each by an early return.
 use borrow.Author.Rules.{rules}
-use mathlib.Core.Path.{◌≡◌, sym, ap, ◌∙◌}
+use mathlib.Core.Path.{◌≡◌, sym, ◌∙◌}
 use mathlib.Core.Bool.{false, not}
 use lib.Dec.{eqb}
 use Rattle.std.specs.Prelude.{None, Some}
 use Rattle.settings.specs.Sheet.{sync_id_limit}
 use Rattle.sync_list.specs.Lists.{is_measured_on, is_full_for}
 use Rattle.clock.specs.State.{list_of}
-use Rattle.clock.proofs.SoundLaws.{clauses}
-use Rattle.measuring.specs.Measuring.{sync_frame, measurement_by, measured_on}
-use Rattle.measuring.proofs.DeviationLaws.{measurement_held}
-use Rattle.measuring.proofs.TakenLaws.{InTime, told20, told22, told16, told15, none_told, recorded_is}
-use Rattle.measuring.proofs.taken.Goals as goal
-use Rattle.measuring.proofs.taken.Goals.{After-sync_frame, After-has-is_measured, Else-is_other}
+use Rattle.measuring.specs.Measuring.{sync_frame}
+use Rattle.measuring.proofs.TakenLaws.{InTime, told20, told22, told16, told15, none_told, frame_is}
+use Rattle.measuring.proofs.frame_to_measure.Goals as goal
+use Rattle.measuring.proofs.frame_to_measure.Goals.{After-sync_frame, After-has-is_measured, Else-is_other}
 
 in_time : (c : After-sync_frame) → InTime c.args.clock c.args.status c.args.observed c.args.action_point c.in_ok-cycle.cycle
 in_time c =
@@ -66,16 +64,13 @@ returns-then-is_full_for c =
 pub returns : goal.returns
 returns c =
     let at = goal.at.returns c in
-    let a = c.args in
     let full : c.is_full_for.result ≡ is_full_for (sync_id_limit c.args.clock.settings) c.in_ok-frame.frame.id (list_of c.in_ok-cycle.cycle c.args.clock) =
     rw (c.get.ensures, c.list_of-list.ensures) at c.is_full_for.ensures in
-    let t = in_time at.After-sync_frame in
-    let m : c.measurement_by-measurement.result ≡ measurement_by a.clock a.status a.observed a.action_point =
-    c.measurement_by-measurement.ensures
-    ∙ measurement_held a.clock a.status a.observed a.action_point (clauses a.clock t.clock_sound).settings t.observed_low t.action_point_low in
-    let next : c.with_list.result ≡ measured_on a.clock a.status c.measurement_by-measurement.result =
-    rw (c.with-next.ensures, c.list_of-list.ensures) at c.with_list.ensures ∙ recorded_is t (found at.After-has-is_measured) c.measurement_by-measurement.result in (
+    let t = in_time at.After-sync_frame in (
+      t.clock_sound,
+      t.observed_low,
+      t.action_point_low,
       none_told t (found at.After-has-is_measured) (same (search rules))
           (sym (measured at.After-has-is_measured) ∙ c.if-is_measured.false) (sym full ∙ c.if-is_full_for.false),
-      λ i. ((m i).deviation, (next ∙ ap (measured_on a.clock a.status) m) i),
+      sym (frame_is t (found at.After-has-is_measured)),
     )
