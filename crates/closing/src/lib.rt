@@ -96,7 +96,8 @@ pub fn close_cycle(
     }
 }
 
-// Both controls, where the cycle may be closed. The tests come in 01's order. (No state is handed on: a state is large, and each hand copies it.)
+// Both controls, where the cycle may be closed. The tests come in 01's order. (No clock state is returned here: it is large, and each return copies
+// it, DECISIONS 203.)
 #[tactic(auto, unfolding(refusal::specs::Refusal::first))]
 fn controls(
     clock: Clock,

@@ -1,2 +1,2 @@
 pub mod DeviationLaws
-pub mod TakenLaws
+pub mod RefusalLaws

@@ -66,7 +66,7 @@ pub fn measure(
     }
 }
 
-// The frame that is measured. The tests come in 01's order. (No state is handed on: a state is large, and each hand copies it.)
+// The frame that is measured. The tests come in 01's order. (No clock state is returned here: it is large, and each return copies it, DECISIONS 203.)
 #[tactic(auto, unfolding(refusal::specs::Refusal::first))]
 fn frame_to_measure(
     clock: Clock,

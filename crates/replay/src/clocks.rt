@@ -8,8 +8,12 @@ use refusal::Answer;
 use slot::Status;
 use std::io::Read;
 
-// How many bytes stand behind `L`.
+// How many bytes stand behind `L`, `M` and `C`.
 const LOAD_SIZE: usize = sheet::SIZE + sheet::MARK_SIZE;
+
+const MEASURE_SIZE: usize = 8;
+
+const CLOSE_SIZE: usize = 2;
 
 // `L`, with settings and mark: `load N FIELD`
 pub fn load(
@@ -48,7 +52,7 @@ pub fn measure(
     clock: &mut Clock,
     status: Status,
 ) -> Result<(), ScriptError> {
-    let bytes = script.array::<8>()?;
+    let bytes = script.array::<MEASURE_SIZE>()?;
     let mut item = Script::new(&bytes[..]);
     let observed = Microtick(item.u32()?);
     let action_point = Microtick(item.u32()?);
@@ -68,7 +72,7 @@ pub fn close_cycle(
     to: &impl Print,
     clock: &mut Clock,
 ) -> Result<(), ScriptError> {
-    let bytes = script.array::<2>()?;
+    let bytes = script.array::<CLOSE_SIZE>()?;
     let mut item = Script::new(&bytes[..]);
     let offset_control = i32::from(item.i8()?);
     let rate_control = i32::from(item.i8()?);

@@ -46,9 +46,14 @@ pub fn read(script: &mut Script<impl Read>, to: &impl Print) -> Result<(), Scrip
     Ok(())
 }
 
+// How many bytes `W` has before its size, and `E`.
+const WRITE_SIZE: usize = 5;
+
+const ENCODE_SIZE: usize = 2;
+
 // `W`, with channel, flags, ID, cycle, payload and room: `write N LENGTH OUTPUT`
 pub fn write(script: &mut Script<impl Read>, to: &impl Print) -> Result<(), ScriptError> {
-    let bytes = script.array::<5>()?;
+    let bytes = script.array::<WRITE_SIZE>()?;
     let mut item = Script::new(&bytes[..]);
     let channel = item.u8()?;
     let fields = take_fields(&mut item)?;
@@ -85,7 +90,7 @@ fn take_fields(script: &mut Script<impl Read>) -> Result<Fields, ScriptError> {
 
 // `E`, with channel, start length, bytes and room: `encode N BITS OUTPUT FOUND EXPECTED`
 pub fn encode(script: &mut Script<impl Read>, to: &impl Print) -> Result<(), ScriptError> {
-    let [channel, start] = script.array::<2>()?;
+    let [channel, start] = script.array::<ENCODE_SIZE>()?;
     let mut space = [0; MOST];
     let bytes = script.bytes(&mut space)?;
     let room = script.size(MOST)?;

@@ -10,8 +10,10 @@ use std::fmt::{Display, Formatter};
 use std::io::Read;
 use sync_list::{Measurement, ROWS, Row, SyncList};
 
-// How many bytes a list has, a count and the rows, and how many the marks of its rows.
-pub const SIZE: usize = 1 + 11 * ROWS;
+// How many bytes a row has, a list, which is a count and the rows, and the marks of a list.
+const ROW_SIZE: usize = 11;
+
+pub const SIZE: usize = 1 + ROW_SIZE * ROWS;
 
 pub const MARKS_SIZE: usize = 2 * sheet::MARK_SIZE * ROWS;
 

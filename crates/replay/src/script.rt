@@ -80,8 +80,8 @@ impl<R: Read> Script<R> {
         Ok(bytes)
     }
 
-    // So many bytes, taken in one call. Where they are an item, its values are taken of them as of a script of their own: a call for each would
-    // take most of a run's time, since standard input holds nothing back.
+    // The next bytes, taken in one call. The values of an item are then read from its bytes, as from a script of their own: standard input has no
+    // buffer, and a call of the system for each value would take most of a run's time (DECISIONS 204).
     pub fn array<const N: usize>(&mut self) -> Result<[u8; N], ScriptError> {
         let mut bytes = [0; N];
         self.fill(&mut bytes)?;

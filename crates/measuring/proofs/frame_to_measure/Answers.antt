@@ -8,7 +8,7 @@ use Rattle.settings.specs.Sheet.{sync_id_limit}
 use Rattle.sync_list.specs.Lists.{is_measured_on, is_full_for}
 use Rattle.clock.specs.State.{list_of}
 use Rattle.measuring.specs.Measuring.{sync_frame}
-use Rattle.measuring.proofs.TakenLaws.{InTime, told20, told22, told16, told15, none_told, frame_is}
+use Rattle.measuring.proofs.RefusalLaws.{InTime, told20, told22, told16, told15, none_told, frame_is}
 use Rattle.measuring.proofs.frame_to_measure.Goals as goal
 use Rattle.measuring.proofs.frame_to_measure.Goals.{After-sync_frame, After-has-is_measured, Else-is_other}
 
