@@ -1,2 +1,3 @@
 pub mod DeviationLaws
 pub mod RefusalLaws
+pub mod RecordedLaws

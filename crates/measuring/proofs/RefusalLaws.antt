@@ -15,12 +15,11 @@ use Rattle.base_types.specs.Microtick.{above_time_limit}
 use Rattle.settings.specs.Sheet.{sync_id_limit}
 use Rattle.slot.specs.declared.status.Status.{Status}
 use Rattle.slot.specs.Sound as slot
-use Rattle.sync_list.specs.declared.row.Measurement.{Measurement}
-use Rattle.sync_list.specs.Lists.{is_measured_on, is_full_for, recorded}
+use Rattle.sync_list.specs.Lists.{is_measured_on, is_full_for}
 use Rattle.clock.specs.declared.state.Clock.{Clock}
-use Rattle.clock.specs.State.{current_cycle, list_of, with_list}
+use Rattle.clock.specs.State.{current_cycle, list_of}
 use Rattle.clock.specs.Sound.{sound}
-use Rattle.measuring.specs.Measuring.{frame_of, no_sync_frame, sync_frame, other_cycle, measured_already, list_full, measured_on, measure_refusals}
+use Rattle.measuring.specs.Measuring.{frame_of, no_sync_frame, sync_frame, other_cycle, measured_already, list_full, measure_refusals}
 
 -- ---- a frame, where it is not refused
 
@@ -59,7 +58,7 @@ module _ {clock : Clock} {status : Status} {observed action_point : Microtick} {
     pub frame_is : frame_of status ≡ frame
     frame_is = (some_if (no_sync_frame status) (frame_of status) frame found).1
 
-    cycle_is : current_cycle clock ≡ cycle
+    pub cycle_is : current_cycle clock ≡ cycle
     cycle_is = ap (λ (o : Option Cycle). unwrap_or o (record { 0 = 0 })) t.opened
 
     other_is : other_cycle clock status ≡ not (eqb frame.cycle.0 cycle.0)
@@ -70,10 +69,6 @@ module _ {clock : Clock} {status : Status} {observed action_point : Microtick} {
 
     full_is : list_full clock status ≡ is_full_for (sync_id_limit clock.settings) frame.id (list_of cycle clock)
     full_is = λ i. is_full_for (sync_id_limit clock.settings) (frame_is i).id (list_of (cycle_is i) clock)
-
-    -- the state that the rule leaves, from what the tests found: a law to cite, which the answer of `measure` does without
-    pub recorded_is : (m : Measurement) → with_list cycle (recorded frame.id status.channel m (list_of cycle clock)) clock ≡ measured_on clock status m
-    recorded_is m = sym (λ i. with_list (cycle_is i) (recorded (frame_is i).id status.channel m (list_of (cycle_is i) clock)) clock)
 
     past20 : Past order (drop 4 order)
     past20 = past14 then (some_if (no_sync_frame status) (frame_of status) frame found).0

@@ -3,13 +3,13 @@ use Prim.Native.Nat.{ℕ}
 use mathlib.Core.Path.{◌≡◌, sym, ap, ◌∙◌}
 use lib.IntN.{pos}
 use Rattle.refusal.specs.Refusal.{if_accepted}
-use Rattle.base_types.specs.declared.cycle.Cycle.{Cycle}
 use Rattle.sync_list.specs.Lists.{recorded}
 use Rattle.clock.specs.declared.state.Clock.{Clock}
-use Rattle.clock.specs.State.{current_cycle, list_of, with_list}
+use Rattle.clock.specs.State.{list_of, with_list}
 use Rattle.clock.proofs.SoundLaws.{clauses}
-use Rattle.measuring.specs.Measuring.{Told, frame_of, deviation_by, measurement_by, measured_on}
+use Rattle.measuring.specs.Measuring.{Told, deviation_by, measurement_by, measured_on}
 use Rattle.measuring.proofs.DeviationLaws.{measurement_held}
+use Rattle.measuring.proofs.RecordedLaws.{recorded_by}
 use Rattle.measuring.proofs.measure.Goals as goal
 
 pub returns-in-Ok : goal.returns-in-Ok
@@ -19,14 +19,14 @@ returns-in-Ok c =
     let m : c.measurement_by-measurement.result ≡ measurement_by a.clock a.status a.observed a.action_point =
     c.measurement_by-measurement.ensures
     ∙ measurement_held a.clock a.status a.observed a.action_point (clauses a.clock found.0).settings found.1 found.2 in
-    let cycle : c.current_cycle-cycle.result ≡ current_cycle a.clock = c.current_cycle-cycle.ensures in
-    let list : c.list_of-list.result ≡ list_of (current_cycle a.clock) a.clock =
-    c.list_of-list.ensures ∙ ap (λ (n : Cycle). list_of n a.clock) cycle in
-    let next : c.with-next.result
-    ≡ recorded (frame_of a.status).id a.status.channel (measurement_by a.clock a.status a.observed a.action_point) (list_of (current_cycle a.clock) a.clock) =
-    c.with-next.ensures ∙ (λ i. recorded (found.4 i).id a.status.channel (m i) (list i)) in
+    let next : c.with_list.result
+    ≡ with_list c.current_cycle-cycle.result
+    (recorded c.in-Ok.frame.id a.status.channel c.measurement_by-measurement.result (list_of c.current_cycle-cycle.result a.clock)) a.clock =
+    rw (c.with-next.ensures, c.list_of-list.ensures) at c.with_list.ensures in
     let state : c.with_list.result ≡ measured_on a.clock a.status (measurement_by a.clock a.status a.observed a.action_point) =
-    c.with_list.ensures ∙ (λ i. with_list (cycle i) (next i) a.clock) in
+    next
+    ∙ recorded_by a.clock a.status (sym found.4) (sym c.current_cycle-cycle.ensures) c.measurement_by-measurement.result
+    ∙ ap (measured_on a.clock a.status) m in
     let tell : ℕ → Told = λ (n : ℕ). record { number = n; deviation = if_accepted n (deviation_by a.clock a.status a.observed a.action_point) (pos 0) } in
     let leave : ℕ → Clock =
     λ (n : ℕ). if_accepted n (measured_on a.clock a.status (measurement_by a.clock a.status a.observed a.action_point)) a.clock in
